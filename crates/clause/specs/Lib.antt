@@ -1,0 +1,5 @@
+pub mod Bit
+pub mod Tests
+pub mod Refusals
+pub mod Meaning
+pub mod Sets
