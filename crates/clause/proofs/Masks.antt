@@ -144,3 +144,17 @@ shifted-none a m z k h b =
 
 pub in-below : (n a k : ℕ) → a < 2 ^ n → In k a → k < n
 in-below n a k h b = ⊎-elim (λ l. l) (λ l. absurd (omega (arith, bit-high n a k h l))) (cases-lt k n)
+
+pub disjoint-from : (a b : ℕ) → bitAnd a b ≡ 0 → (k : ℕ) → In k a → In k b → ⊥
+disjoint-from a b e k p q = omega (arith, bit-and a b k, ap (λ m. bit m k) e, zero-bit k)
+
+pub disjoint-to : (n a b : ℕ) → a < 2 ^ n → ((k : ℕ) → In k a → In k b → ⊥) → bitAnd a b ≡ 0
+disjoint-to n a b p h = ⊎-elim
+    (λ z. z)
+    (λ z. let w = some-bit n (bitAnd a b) (omega (arith, and-le-l a b)) (omega arith) in
+    absurd (h (w .0) (omega (arith, bit-and a b (w .0), w .1, bit-lt a (w .0))) (omega (arith, bit-and a b (w .0), w .1, bit-lt b (w .0)))))
+    (cases-eq (bitAnd a b) 0)
+
+-- a letter noted in a mask
+pub in-noted : (w k j : ℕ) → In j (bitOr w (2 ^ k)) → ¬ (j ≡ k) → In j w
+in-noted w k j h n = omega (arith, bit-or w (2 ^ k) j, bit-pow-other k j n)

@@ -14,6 +14,10 @@ use Rattle.clause.specs.Meaning.{none, waiting}
 abbrev pub Holds : LitSet → Literal → Type 0
 Holds s l = elim (l .positive) [ true ↦ In (l .letter) (s .plus) | false ↦ In (l .letter) (s .minus) ]
 
+-- no literal of s is true in the world w, where the letters of the mask are true and no others
+abbrev pub Untrue-in : ℕ → LitSet → Type 0
+Untrue-in w s = (k : ℕ) → (In k (s .plus) → In k w → ⊥) × (In k (s .minus) → In k w)
+
 -- s holds a letter above n
 abbrev pub Over : ℕ → LitSet → Type 0
 Over n s = (k : ℕ) × (n < k) × (In k (s .plus) ⊎ In k (s .minus))

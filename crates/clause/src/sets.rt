@@ -1,23 +1,26 @@
 ghost use mathlib.Core.Path.{_≡_};
 ghost use Prim.Native.Nat.{ℕ, _^_, _<_, _≤_};
-ghost use Rattle.clause.specs.Bit.{In};
+ghost use lib.Dec.{eqb};
+ghost use Rattle.clause.specs.Bit.{bit, In};
 ghost use Rattle.clause.specs.Tests.{Tells};
 ghost use Rattle.clause.specs.Meaning.{none, just, _∪_, Within};
-ghost use Rattle.clause.specs.Sets.{Holds, Over, _∖_, waits-set, waits-not-set, now-of, next-of, literal-of};
+ghost use Rattle.clause.specs.Sets.{Holds, Over, Untrue-in, _∖_, waits-set, waits-not-set, now-of, next-of, literal-of};
 use crate::syntax::Clause;
 use crate::syntax::LitSet;
 use crate::syntax::Literal;
 
 // The mask of one letter; past 63 there is none.
-fn mask(letter: u8) -> u64
+pub fn mask(letter: u8) -> u64
     ensures low { λ r. ⌜ (letter < 64 → r ≡ 2 ^ letter) ⌝ }
     ensures high { λ r. ⌜ (64 ≤ letter → r ≡ 0) ⌝ }
 {
     if letter < 64 { 1u64 << letter } else { 0 }
 }
 
-fn bit_at(mask: u64, k: u8) -> bool
-    ensures { λ r. ⌜ Tells r (In k mask) ⌝ }
+// Is the letter k in the mask?
+pub fn bit_at(mask: u64, k: u8) -> bool
+    ensures exact { λ r. ⌜ r ≡ eqb (bit mask k) 1 ⌝ }
+    ensures tells { λ r. ⌜ Tells r (In k mask) ⌝ }
 {
     k < 64 && (mask >> k) % 2 == 1
 }
@@ -33,6 +36,12 @@ fn part_of(a: u64, b: u64) -> bool
     ensures { λ r. ⌜ Tells r ((k : ℕ) → In k a → In k b) ⌝ }
 {
     a & b == a
+}
+
+fn disjoint(a: u64, b: u64) -> bool
+    ensures { λ r. ⌜ Tells r ((k : ℕ) → In k a → In k b → ⊥) ⌝ }
+{
+    a & b == 0
 }
 
 impl Literal {
@@ -128,6 +137,13 @@ impl LitSet {
         ensures { λ r. ⌜ Tells r (Within self other) ⌝ }
     {
         part_of(self.plus, other.plus) && part_of(self.minus, other.minus)
+    }
+
+    // Is no literal of the set true in a world, where the letters of the mask are true and no others?
+    pub fn untrue_in(self, world: u64) -> bool
+        ensures { λ r. ⌜ Tells r (Untrue-in world self) ⌝ }
+    {
+        disjoint(self.plus, world) && part_of(self.minus, world)
     }
 
     // Does the set hold a letter above n?

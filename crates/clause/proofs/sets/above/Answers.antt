@@ -13,5 +13,5 @@ returns-then-n-lt63 c = tells _ _
 
 pub returns-else-n-lt63 : need.returns-else-n-lt63
 returns-else-n-lt63 c = tells _ _
-    (λ e. absurd (omega (arith, ltb-true (c .args .n) 63 e)))
+    (λ e. let h = ltb-true (c .args .n) 63 e in absurd (omega arith))
     (λ e w. omega (arith, w .1, in-below 64 (c .args .mask) (w .0) (omega arith) (w .2)))

@@ -1,0 +1,9 @@
+pub mod Source
+pub mod Letters
+pub mod Table
+pub mod Tasks
+pub mod Times
+pub mod Loops
+pub mod Assigns
+pub mod Breaks
+pub mod Moments
