@@ -4,7 +4,7 @@ use mathlib.Core.Bool.{Bool, true, false, cond, _&&_, not, Bool·beq}
 use mathlib.Core.Logic.{_⊎_, _↔_}
 use mathlib.Core.List.{List}
 use Prim.Native.Nat.{ℕ, zero, suc, _+_, _-_, _/_, _<_, _≤_, _^_}
-use lib.ListN.{length, getD}
+use lib.ListN.{length, getD, take}
 use lib.Bits.{bitOr}
 use lib.Dec.{eqb, ltb}
 use Rattle.std.specs.declared.option.Option.{Option}
@@ -34,6 +34,9 @@ asks (Never n l) = bitOr (letters n) (2 ^ l .letter)
 -- w has each letter asked for, of the 60 that a line can hold, exactly where it is true at moment i
 abbrev pub World : Run → ℕ → ℕ → ℕ → Type 0
 World r asked i w = (k : ℕ) → k < 60 → In k asked → In k w ↔ Letter-true r i k
+
+abbrev pub worlds-of : Moments → List ℕ
+worlds-of m = take (m .end) (m .worlds)
 
 -- the moments of a source, read for the letters asked for
 pub record Read (x : Source) (asked : ℕ) (m : Moments) : Type 0 where

@@ -6,7 +6,7 @@ ghost use Rattle.clause.specs.Sets.{Narrow, Untrue-in};
 ghost use Rattle.clause.specs.Tests.{Tells};
 ghost use Rattle.runs.specs.Source.{Source};
 ghost use Rattle.runs.specs.Breaks.{First-break, First-in, successor};
-ghost use Rattle.runs.specs.Moments.{Read, asks, Breaks-at, Judged};
+ghost use Rattle.runs.specs.Moments.{Read, asks, Breaks-at, Judged, worlds-of};
 use crate::horizon::horizon;
 use crate::moments::Moments;
 use clause::syntax::Clause;
@@ -93,7 +93,8 @@ fn first_initial(worlds: &[u64], n: LitSet) -> Option<u16>
 impl Moments {
     // The first moment at which the run breaks the clause.
     pub fn first_break(&self, clause: Clause) -> Option<u16>
-        ensures { λ r. ⌜ ((x : Source) (asked : ℕ) → Read x asked (now (self .entry)) → Narrow clause → ((k : ℕ) → In k (asks clause) → In k asked) → First-break (x .run) clause r) ⌝ }
+        ensures told { λ r. ⌜ Judged (worlds-of (now (self .entry))) (now (self .entry) .lead) clause r ⌝ }
+        ensures first { λ r. ⌜ ((x : Source) (asked : ℕ) → Read x asked (now (self .entry)) → Narrow clause → ((k : ℕ) → In k (asks clause) → In k asked) → First-break (x .run) clause r) ⌝ }
     {
         judge(&self.worlds[0..self.end as usize], self.lead, clause)
     }

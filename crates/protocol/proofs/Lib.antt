@@ -1,0 +1,9 @@
+pub mod Narrow
+pub mod Laws
+pub mod Lines
+pub mod Invariant
+pub mod Rules
+pub mod Steps
+pub mod Room
+pub mod Unique
+pub mod Histories

@@ -1,0 +1,2 @@
+// Rule books: what they are, and the two that the method needs.
+pub mod book;
