@@ -4,7 +4,7 @@ ghost use lib.Dec.{eqb};
 ghost use Rattle.clause.specs.Bit.{bit, In};
 ghost use Rattle.clause.specs.Tests.{Tells};
 ghost use Rattle.clause.specs.Meaning.{none, just, _∪_, Within};
-ghost use Rattle.clause.specs.Sets.{Holds, Over, Untrue-in, _∖_, waits-set, waits-not-set, now-of, next-of, literal-of};
+ghost use Rattle.clause.specs.Sets.{Holds, Over, Untrue-in, _∖_, waits-set, waits-not-set, now-of, next-of, literal-of, Narrow};
 use crate::syntax::Clause;
 use crate::syntax::LitSet;
 use crate::syntax::Literal;
@@ -45,6 +45,12 @@ fn disjoint(a: u64, b: u64) -> bool
 }
 
 impl Literal {
+    pub fn is_plain(self) -> bool
+        ensures { λ r. ⌜ Tells r (19 < self .letter → ⊥) ⌝ }
+    {
+        self.letter <= 19
+    }
+
     // The letter that waits for a plain literal; of another there is none.
     fn waiting(self) -> u8
         ensures plain { λ r. ⌜ (self .letter ≤ 19 → (r ≡ Rattle.clause.specs.Meaning.waiting self) × (r < 64)) ⌝ }
@@ -175,6 +181,16 @@ impl Clause {
             Clause::Assumption(x) => x,
             _ => LitSet { plus: 0, minus: 0 },
         }
+    }
+
+    // Is no letter above 59, and the literal plain?
+    pub fn is_narrow(self) -> bool
+        ensures { λ r. ⌜ Tells r (Narrow self) ⌝ }
+    {
+        if self.now_set().over(59) || self.next_set().over(59) {
+            return false;
+        }
+        self.literal().is_plain()
     }
 
     // The literal of an eventuality or a never clause; +0 of another.

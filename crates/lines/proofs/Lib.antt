@@ -1,0 +1,5 @@
+pub mod Placing
+pub mod Citing
+pub mod Forcing
+pub mod Guarding
+pub mod Writing

@@ -1,0 +1,11 @@
+use mathlib.Core.List.{map}
+use Prim.Native.Nat.{_+_, _≤_}
+use lib.ListN.{length, take}
+use Rattle.protocol.specs.Causes.{Some-over}
+use Rattle.protocol.specs.Answers.{nevers}
+use Rattle.lines.specs.View.{Written}
+use Rattle.lines.proofs.writes.conclude.Given as given
+
+abbrev pub Inv-loop-i : given.InvT-loop-i
+Inv-loop-i l = l .l .letter ≤ 19 → length (l .covers) ≤ 8 → ¬ Some-over (l .guards) → l .last + length (l .guards) ≤ length (l .entry .table)
+    → Written (l .last) (l .entry .table) (map (nevers (l .l) (l .covers)) (take (l .i) (l .guards))) (l .table)
