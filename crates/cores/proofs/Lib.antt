@@ -1,0 +1,4 @@
+pub mod Marking
+pub mod Rows
+pub mod Sweeping
+pub mod Coring
