@@ -8,12 +8,11 @@ use native.Mathlib.Omega.{arith}
 use lib.ListN.{length}
 use Rattle.std.proofs.shelf.Lists.{length-map}
 use Rattle.std.proofs.shelf.Tests.{lt-leb, leb-false}
-use Rattle.clause.specs.declared.refusal.Fault.{Fault}
-use Rattle.clause.specs.declared.refusal.Refusal.{Refusal}
 use Rattle.clause.specs.declared.refusal.Refusal.the-variants.{NoSuchLine, NotInForce}
 use Rattle.clause.specs.Refusals.{plain}
 use Rattle.protocol.specs.State as model
-use Rattle.protocol.specs.Causes.{if, First, None-of, Some-in, Outside, Dormant, named}
+use Rattle.protocol.proofs.Causing.{not-if}
+use Rattle.protocol.specs.Causes.{First, None-of, Some-in, Outside, Dormant, named}
 use Rattle.lines.specs.declared.line.Line.{Line}
 use Rattle.lines.specs.View.{line-of, lines-of}
 use Rattle.lines.specs.Named.{Loop-from, Asleep, at-stage}
@@ -22,9 +21,6 @@ pub some-weaker : (P Q : ℕ → Type 0) → ((n : ℕ) → P n → Q n) → (ns
 some-weaker P Q f [] p = p
 some-weaker P Q f (n ∷ ns) (inl p) = inl (f n p)
 some-weaker P Q f (n ∷ ns) (inr p) = inr (some-weaker P Q f ns p)
-
-pub not-if : (P : Type 0) (r : Refusal) → ¬ P → (f : Fault) → ¬ if P r f
-not-if P r n f q = n (q .0)
 
 module _ (t : List Line) (first : ℕ) (st : model.Stage) (g : ℕ) (from : Loop-from first (length t) st) where
   abbrev here : model.State
@@ -63,3 +59,7 @@ module _ (t : List Line) (first : ℕ) (st : model.Stage) (g : ℕ) (from : Loop
 
   pub none-named : (ns : List ℕ) → ¬ Some-in Beyond ns → ¬ Some-in (Asleep (lines-of t) first) ns → None-of (named here ns)
   none-named ns a p = (not-if _ NoSuchLine (none-outside ns a), (not-if _ NotInForce (λ d. p (some-under _ _ ns a dormant-from d)), tt))
+
+-- without an open loop no line of at most 1,000 is in one
+pub sealed-from : (t : List Line) → length t ≤ 1000 → Loop-from 1001 (length t) model.sealed
+sealed-from t h n k = sym (lt-leb 1001 n (omega arith))

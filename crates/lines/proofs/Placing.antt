@@ -5,7 +5,10 @@ use Prim.Native.Nat.{ℕ, zero, suc, _+_, _-_, _<_, _≤_}
 use native.Mathlib.Omega.{arith}
 use lib.ListN.{length, getD, set, take, replicate}
 use Rattle.std.proofs.shelf.Lists.{getD-map, getD-past, length-map, length-take-le, take-more, take-all, take-append-le}
+use Rattle.std.specs.shelf.Lists.{All}
+use Rattle.clause.specs.Sets.{Narrow}
 use Rattle.protocol.specs.State as model
+use Rattle.protocol.proofs.Narrow.{under-none}
 use Rattle.lines.specs.declared.line.Line.{Line}
 use Rattle.lines.specs.View.{line-of, lines-of, Is-blank}
 
@@ -41,3 +44,16 @@ front-is ns out h e = ap (take (length ns)) e ∙ take-append-le (length ns) ns 
 
 pub tidy-is : (ns out : List ℕ) → length ns ≤ 8 → out ≡ ns ++ replicate (8 - length ns) 0 → out ≡ take (length ns) out ++ replicate (8 - length ns) 0
 tidy-is ns out h e = e ∙ ap (λ zs. zs ++ replicate (8 - length ns) 0) (sym (front-is ns out h e))
+
+-- every line of a table is narrow
+narrow-get : (t : List Line) (k : ℕ) → Narrow (getD (lines-of t) k model.blank .clause)
+narrow-get [] k = (under-none 59, under-none 59, λ h. omega arith)
+narrow-get (x ∷ t) zero = x .narrow
+narrow-get (x ∷ t) (suc k) = narrow-get t k
+
+pub narrow-at : (t : List Line) (n : ℕ) → Narrow (model.clause-at (lines-of t) n)
+narrow-at t n = narrow-get t (n - 1)
+
+pub narrow-all : (t : List Line) (ns : List ℕ) → All Narrow (model.clauses-at (lines-of t) ns)
+narrow-all t [] = tt
+narrow-all t (n ∷ ns) = (narrow-at t n, narrow-all t ns)

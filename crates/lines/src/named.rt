@@ -84,7 +84,8 @@ pub fn rests_everywhere(lines: &[Line], ns: &[u16], marks: u8) -> bool
 
 // The clauses of the first 8 lines named.
 pub fn clauses_at(lines: &[Line], ns: &[u16]) -> [Clause; 8]
-    ensures { λ r. ⌜ (length (now (ns .entry)) ≤ 8 → take (length (now (ns .entry))) r ≡ clauses-at (lines-of (now (lines .entry))) (now (ns .entry))) ⌝ }
+    ensures long { λ r. ⌜ length r ≡ 8 ⌝ }
+    ensures front { λ r. ⌜ (length (now (ns .entry)) ≤ 8 → take (length (now (ns .entry))) r ≡ clauses-at (lines-of (now (lines .entry))) (now (ns .entry))) ⌝ }
 {
     let mut out = [Clause::Initial(LitSet { plus: 0, minus: 0 }); 8];
     for (i, n) in ns.iter().enumerate() {

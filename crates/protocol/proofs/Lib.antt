@@ -1,3 +1,4 @@
+pub mod Causing
 pub mod Narrow
 pub mod Laws
 pub mod Lines

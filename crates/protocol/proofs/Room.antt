@@ -34,17 +34,17 @@ given-in (loop _ _ _) c x = absurd x
 accepted-room : (s : State) (c : Call) (a : Answer) (t : State) → Inv (s .stage) (s .given) (s .lines) → Exists (s .stage) c → None-of (causes s c) → Result s c a t → Room s → Room t
 accepted-room s (give c) a t inv x n q m = subst Room (sym (q .1)) (give-room (s .stage) (s .given) (s .lines) _ inv (given-in (s .stage) c x) (not-due _ NoRoom (n .1 .0)))
 accepted-room s seal a t inv x n q m = subst Room (sym (q .1)) m
-accepted-room s (infer b ns) a t inv x n q m = subst Room (sym (q .4)) (added-room sealed (s .given) 1 (s .lines) _ (not-due _ NoRoom (n .1 .1 .1 .1 .1 .0)) refl (m .0))
-accepted-room s (wait-line k) a t inv x n q m = subst Room (sym (q .1)) (added-room sealed (s .given) 1 (s .lines) _ (not-due _ NoRoom (n .1 .1 .1 .0)) refl (m .0))
-accepted-room s (wait-literal l) a t inv x n q m = subst Room (sym (q .1)) (added-room sealed (s .given) 1 (s .lines) _ (not-due _ NoRoom (n .1 .0)) refl (m .0))
+accepted-room s (infer b ns) a t inv x n q m = subst Room (sym (q .3)) (added-room sealed (s .given) 1 (s .lines) _ (not-due _ NoRoom (n .1 .1 .1 .1 .1 .0)) refl (m .0))
+accepted-room s (wait-line k) a t inv x n q m = subst Room (sym (q .3)) (added-room sealed (s .given) 1 (s .lines) _ (not-due _ NoRoom (n .1 .1 .1 .0)) refl (m .0))
+accepted-room s (wait-literal l) a t inv x n q m = subst Room (sym (q .3)) (added-room sealed (s .given) 1 (s .lines) _ (not-due _ NoRoom (n .1 .0)) refl (m .0))
 accepted-room s (open-loop l gs) a t inv x n q m = subst Room (sym (q .1)) (added-room sealed (s .given) (length gs) (s .lines) (map (assumed l) gs) (not-due _ NoRoom (n .1 .1 .0)) (length-map gs (assumed l)) (m .0))
 accepted-room s (close ns) a t inv x n q m =
     let gs = guards-of (s .stage) in
     subst Room (sym (q .1)) (added-room sealed (s .given) (length ns) (s .lines) (map (nevers (loop-literal (s .stage)) ns) gs) (not-due _ NoRoom (n .1 .1 .1 .1 .1 .0))
     (⊎-elim (λ e. length-map gs (nevers (loop-literal (s .stage)) ns) ∙ sym e) (λ e. absurd (not-due _ WrongCount (n .0) e)) (cases-eq (length ns) (length gs))) (m .0))
 accepted-room s abandon a t inv x n q m = subst Room (sym (q .1)) (m .0, omega (arith, m .1, length-take (loop-first (s .stage) - 1) (s .lines)))
-accepted-room s (draw k l) a t inv x n q m = subst Room (sym (q .1)) (added-room sealed (s .given) 1 (s .lines) _ (not-due _ NoRoom (n .1 .1 .1 .1 .0)) refl (m .0))
-accepted-room s (draw-alone k) a t inv x n q m = subst Room (sym (q .1)) (added-room sealed (s .given) 1 (s .lines) _ (not-due _ NoRoom (n .1 .1 .1 .0)) refl (m .0))
+accepted-room s (draw k l) a t inv x n q m = subst Room (sym (q .3)) (added-room sealed (s .given) 1 (s .lines) _ (not-due _ NoRoom (n .1 .1 .1 .1 .0)) refl (m .0))
+accepted-room s (draw-alone k) a t inv x n q m = subst Room (sym (q .3)) (added-room sealed (s .given) 1 (s .lines) _ (not-due _ NoRoom (n .1 .1 .1 .0)) refl (m .0))
 accepted-room s (refute k row) a t inv x n q m = subst Room (sym (q .3)) m
 accepted-room s (show y) a t inv x n q m = subst Room (sym (q .1)) m
 

@@ -23,7 +23,7 @@ use Rattle.clause.specs.declared.syntax.Literal.{Literal}
 use Rattle.protocol.proofs.Invariant.{Is-intake, Inv, New, extended, pushed}
 use Rattle.protocol.proofs.Lines.{none-in, old-line, new-line, kept-line, rests-cut}
 use Rattle.protocol.proofs.Rules.{inside, insides, infer-new, wait-new, wait-literal-new, draw-new, draw-alone-new, assumed-new, close-new}
-use Rattle.protocol.specs.Answers.{Result, Answered, derived, assumed, nevers}
+use Rattle.protocol.specs.Answers.{Result, Answered, derived, assumed, nevers, Adds, Added}
 use Rattle.protocol.specs.Calls.{Call, give, seal, infer, wait-line, wait-literal, open-loop, close, abandon, draw, draw-alone, refute, show, Answer, number, core, shown, refused, Exists}
 use Rattle.protocol.specs.Causes.{if, None-of, causes, Over-given, Some-in, Some-over}
 use Rattle.protocol.specs.Cores.{itself}
@@ -125,6 +125,11 @@ pushed-next : (st : Stage) (g : ℕ) (ls : List Line) (x : Line) → Inv st g ls
     → Next (record { stage = st; given = g; lines = ls }) (record { stage = st; given = g; lines = ls ++ (x ∷ []) })
 pushed-next st g ls x inv late n = added-next st st g ls (x ∷ []) inv late (pushed st g ls x inv late n)
 
+-- a call that adds a line
+added-step : (st : Stage) (g : ℕ) (ls : List Line) (c : Call) (a : Answer) (t : State) → Inv st g ls → ¬ Is-intake st → Added (record { stage = st; given = g; lines = ls }) c a t
+    → ((y : Line) → Adds (record { stage = st; given = g; lines = ls }) c y → New st g ls y) → Next (record { stage = st; given = g; lines = ls }) t
+added-step st g ls c a t inv late q f = subst (Next _) (sym (q .3)) (pushed-next st g ls (q .0) inv late (f (q .0) (q .1)))
+
 same-next : (s : State) → Inv (s .stage) (s .given) (s .lines) → Next s s
 same-next s inv = record { holds = inv; frozen = λ late. (late, refl, λ _ _ _. refl) }
 
@@ -145,12 +150,12 @@ accepted intake g ls (refute _ _) a t inv x n q = absurd x
 accepted intake g ls (show _) a t inv x n q = absurd x
 accepted sealed g ls (give _) a t inv x n q = absurd x
 accepted sealed g ls seal a t inv x n q = absurd x
-accepted sealed g ls (infer b ns) a t inv x n q = subst (Next _) (sym (q .4)) (pushed-next sealed g ls _ inv (λ y. y)
-    (infer-new sealed g ls inv b ns (q .0) (q .1) (q .2) (insides sealed g ls ns (not-due _ NoSuchLine (n .1 .0))) (none-in _ ns (not-due _ NotInForce (n .1 .1 .0)))
-    (λ w. not-due _ RestingEverywhere (n .1 .1 .1 .1 .0) (q .0, q .1, q .2, w))))
-accepted sealed g ls (wait-line m) a t inv x n q = subst (Next _) (sym (q .1)) (pushed-next sealed g ls _ inv (λ y. y)
+accepted sealed g ls (infer b ns) a t inv x n q = added-step sealed g ls (infer b ns) a t inv (λ y. y) q (λ y w. subst (New sealed g ls) (sym (w .3))
+    (infer-new sealed g ls inv b ns (w .0) (w .1) (w .2) (insides sealed g ls ns (not-due _ NoSuchLine (n .1 .0))) (none-in _ ns (not-due _ NotInForce (n .1 .1 .0)))
+    (λ v. not-due _ RestingEverywhere (n .1 .1 .1 .1 .0) (w .0, w .1, w .2, v))))
+accepted sealed g ls (wait-line m) a t inv x n q = added-step sealed g ls (wait-line m) a t inv (λ y. y) q (λ y w. subst (New sealed g ls) (sym w)
     (wait-new g ls inv m (inside sealed g ls m (λ o. not-due _ NoSuchLine (n .0) (inl o))) (λ o. not-due _ NotInForce (n .1 .0) (inl o)) (not-due _ WrongKind (n .1 .1 .0))))
-accepted sealed g ls (wait-literal l) a t inv x n q = subst (Next _) (sym (q .1)) (pushed-next sealed g ls _ inv (λ y. y)
+accepted sealed g ls (wait-literal l) a t inv x n q = added-step sealed g ls (wait-literal l) a t inv (λ y. y) q (λ y w. subst (New sealed g ls) (sym w)
     (let h : ¬ (19 < l .letter) = not-due _ LetterRange (n .0) in wait-literal-new g ls inv l (omega arith)))
 accepted sealed g ls (open-loop l gs) a t inv x n q = subst (Next _) (sym (q .1)) (added-next sealed (loop (length ls + 1) l gs) g ls (map (assumed l) gs) inv (λ y. y)
     (extended sealed (loop (length ls + 1) l gs) g ls (map (assumed l) gs) inv
@@ -160,21 +165,21 @@ accepted sealed g ls (open-loop l gs) a t inv x n q = subst (Next _) (sym (q .1)
     (let f = inv .fits in let w = length-append ls (map (assumed l) gs) in (omega arith, omega arith))))
 accepted sealed g ls (close _) a t inv x n q = absurd x
 accepted sealed g ls abandon a t inv x n q = absurd x
-accepted sealed g ls (draw k m) a t inv x n q = subst (Next _) (sym (q .1)) (pushed-next sealed g ls _ inv (λ y. y)
+accepted sealed g ls (draw k m) a t inv x n q = added-step sealed g ls (draw k m) a t inv (λ y. y) q (λ y w. subst (New sealed g ls) (sym w)
     (draw-new g ls inv k m
     (inside sealed g ls k (λ o. not-due _ NoSuchLine (n .0) (inl o))) (inside sealed g ls m (λ o. not-due _ NoSuchLine (n .0) (inr (inl o))))
     (λ o. not-due _ NotInForce (n .1 .0) (inl o)) (λ o. not-due _ NotInForce (n .1 .0) (inr (inl o)))
     (λ o. not-due _ WrongKind (n .1 .1 .0) (inl o)) (λ o. not-due _ WrongKind (n .1 .1 .0) (inr o))
     (not-due _ LiteralsDiffer (n .1 .1 .1 .0))))
-accepted sealed g ls (draw-alone m) a t inv x n q = subst (Next _) (sym (q .1)) (pushed-next sealed g ls _ inv (λ y. y)
+accepted sealed g ls (draw-alone m) a t inv x n q = added-step sealed g ls (draw-alone m) a t inv (λ y. y) q (λ y w. subst (New sealed g ls) (sym w)
     (draw-alone-new g ls inv m (inside sealed g ls m (λ o. not-due _ NoSuchLine (n .0) (inl o))) (λ o. not-due _ NotInForce (n .1 .0) (inl o)) (not-due _ WrongKind (n .1 .1 .0))))
 accepted sealed g ls (refute _ _) a t inv x n q = subst (Next _) (sym (q .3)) (same-next _ inv)
 accepted sealed g ls (show _) a t inv x n q = subst (Next _) (sym (q .1)) (same-next _ inv)
 accepted (loop f l gs) g ls (give _) a t inv x n q = absurd x
 accepted (loop f l gs) g ls seal a t inv x n q = absurd x
-accepted (loop f l gs) g ls (infer b ns) a t inv x n q = subst (Next _) (sym (q .4)) (pushed-next (loop f l gs) g ls _ inv (λ y. y)
-    (infer-new (loop f l gs) g ls inv b ns (q .0) (q .1) (q .2) (insides (loop f l gs) g ls ns (not-due _ NoSuchLine (n .1 .0))) (none-in _ ns (not-due _ NotInForce (n .1 .1 .0)))
-    (λ w. not-due _ RestingEverywhere (n .1 .1 .1 .1 .0) (q .0, q .1, q .2, w))))
+accepted (loop f l gs) g ls (infer b ns) a t inv x n q = added-step (loop f l gs) g ls (infer b ns) a t inv (λ y. y) q (λ y w. subst (New (loop f l gs) g ls) (sym (w .3))
+    (infer-new (loop f l gs) g ls inv b ns (w .0) (w .1) (w .2) (insides (loop f l gs) g ls ns (not-due _ NoSuchLine (n .1 .0))) (none-in _ ns (not-due _ NotInForce (n .1 .1 .0)))
+    (λ v. not-due _ RestingEverywhere (n .1 .1 .1 .1 .0) (w .0, w .1, w .2, v))))
 accepted (loop f l gs) g ls (wait-line _) a t inv x n q = absurd x
 accepted (loop f l gs) g ls (wait-literal _) a t inv x n q = absurd x
 accepted (loop f l gs) g ls (open-loop _ _) a t inv x n q = absurd x

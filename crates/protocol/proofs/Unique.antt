@@ -11,7 +11,7 @@ use Rattle.clause.specs.Meaning.{Run}
 use Rattle.clause.specs.declared.refusal.Fault.{Fault}
 use Rattle.clause.specs.declared.refusal.Refusal.{Refusal}
 use Rattle.clause.specs.declared.syntax.LitSet.{LitSet}
-use Rattle.protocol.specs.Answers.{Result, Answered}
+use Rattle.protocol.specs.Answers.{Result, Answered, Adds, Added, added}
 use Rattle.protocol.specs.Calls.{Call, Answer, give, seal, infer, wait-line, wait-literal, open-loop, close, abandon, draw, draw-alone, refute, show, number, core, shown, refused}
 use Rattle.protocol.specs.Causes.{Cause, if, First, None-of, causes, Some-in, Unfit, Lowest-broken}
 use Rattle.protocol.specs.Cores.{Rising, Is-core, padded}
@@ -123,18 +123,20 @@ one-core s n ns ms a b = same-rising ns ms (a .rising) (b .rising)
     (λ k h. let w = a .within k h in b .whole k (w .0) (w .1) (w .2))
     (λ k h. let w = b .within k h in a .whole k (w .0) (w .1) (w .2))
 
+one-added : (s : State) (c : Call) → ((y z : Line) → Adds s c y → Adds s c z → y ≡ z) → (a b : Answer) (t u : State) → Added s c a t → Added s c b u → (a ≡ b) × (t ≡ u)
+one-added s c f a b t u x y = (x .2 ∙ sym (y .2), x .3 ∙ ap (λ (l : Line). added s (l ∷ [])) (f (x .0) (y .0) (x .1) (y .1)) ∙ sym (y .3))
+
 one-result : (s : State) (c : Call) (a b : Answer) (t u : State) → Result s c a t → Result s c b u → (a ≡ b) × (t ≡ u)
 one-result s (give c) a b t u x y = (x .0 ∙ sym (y .0), x .1 ∙ sym (y .1))
 one-result s seal a b t u x y = (x .0 ∙ sym (y .0), x .1 ∙ sym (y .1))
-one-result s (infer k ns) a b t u x y =
-    let e = x .2 in let e′ = y .2 in let w = x .4 in let w′ = y .4 in (x .3 ∙ sym (y .3), cc)
-one-result s (wait-line n) a b t u x y = (x .0 ∙ sym (y .0), x .1 ∙ sym (y .1))
-one-result s (wait-literal l) a b t u x y = (x .0 ∙ sym (y .0), x .1 ∙ sym (y .1))
+one-result s (infer k ns) a b t u x y = one-added s (infer k ns) (λ v w p q. let e = p .2 in let e′ = q .2 in let f = p .3 in let f′ = q .3 in cc) a b t u x y
+one-result s (wait-line n) a b t u x y = one-added s (wait-line n) (λ v w p q. p ∙ sym q) a b t u x y
+one-result s (wait-literal l) a b t u x y = one-added s (wait-literal l) (λ v w p q. p ∙ sym q) a b t u x y
 one-result s (open-loop l gs) a b t u x y = (x .0 ∙ sym (y .0), x .1 ∙ sym (y .1))
 one-result s (close ns) a b t u x y = (x .0 ∙ sym (y .0), x .1 ∙ sym (y .1))
 one-result s abandon a b t u x y = (x .0 ∙ sym (y .0), x .1 ∙ sym (y .1))
-one-result s (draw n m) a b t u x y = (x .0 ∙ sym (y .0), x .1 ∙ sym (y .1))
-one-result s (draw-alone n) a b t u x y = (x .0 ∙ sym (y .0), x .1 ∙ sym (y .1))
+one-result s (draw n m) a b t u x y = one-added s (draw n m) (λ v w p q. p ∙ sym q) a b t u x y
+one-result s (draw-alone n) a b t u x y = one-added s (draw-alone n) (λ v w p q. p ∙ sym q) a b t u x y
 one-result s (refute n row) a b t u x y =
     let e = one-core s n (x .0) (y .0) (x .1) (y .1) in
     (x .2 ∙ ap (λ ns. core (padded ns) (length ns)) e ∙ sym (y .2), x .3 ∙ sym (y .3))

@@ -45,27 +45,42 @@ drawn-clause c d = Global (now-of d ∪ (just (literal-of d) ∪ now-of c)) none
 abbrev pub drawn-alone : Clause → Clause
 drawn-alone c = Global (waits-not-set (literal-of c)) (just (literal-of c) ∪ now-of c)
 
+-- the call adds the line y
+abbrev pub Adds : State → Call → Line → Type 0
+Adds s (give c) y = ⊥
+Adds s seal y = ⊥
+Adds s (infer b ns) y =
+    (k : Conclusion) × (ms : List Mark) × (b .late (clauses-at (s .lines) ns) ≡ gives k ms)
+    × (y ≡ record { clause = concluded k; cites = ns; resting = any-resting (s .lines) ns })
+Adds s (wait-line n) y = y ≡ derived (waited-clause (clause-at (s .lines) n)) (n ∷ [])
+Adds s (wait-literal l) y = y ≡ derived (waits-line l) []
+Adds s (open-loop l gs) y = ⊥
+Adds s (close ns) y = ⊥
+Adds s abandon y = ⊥
+Adds s (draw n m) y = y ≡ derived (drawn-clause (clause-at (s .lines) n) (clause-at (s .lines) m)) (n ∷ m ∷ [])
+Adds s (draw-alone n) y = y ≡ derived (drawn-alone (clause-at (s .lines) n)) (n ∷ [])
+Adds s (refute n row) y = ⊥
+Adds s (show x) y = ⊥
+
+-- the call answers the number of the line that it adds
+abbrev pub Added : State → Call → Answer → State → Type 0
+Added s c a t = (y : Line) × Adds s c y × (a ≡ number (last s + 1)) × (t ≡ added s (y ∷ []))
+
 -- what an accepted call answers, and the state that it leaves
 abbrev pub Result : State → Call → Answer → State → Type 0
 Result s (give c) a t = (a ≡ number (last s + 1)) × (t ≡ record { stage = intake; given = s .given + 1; lines = s .lines ++ (derived c [] ∷ []) })
 Result s seal a t = (a ≡ number (last s)) × (t ≡ record { stage = sealed; given = s .given; lines = s .lines })
-Result s (infer b ns) a t =
-    (k : Conclusion) × (ms : List Mark) × (b .late (clauses-at (s .lines) ns) ≡ gives k ms) × (a ≡ number (last s + 1))
-    × (t ≡ added s (record { clause = concluded k; cites = ns; resting = any-resting (s .lines) ns } ∷ []))
-Result s (wait-line n) a t =
-    (a ≡ number (last s + 1)) × (t ≡ added s (derived (waited-clause (clause-at (s .lines) n)) (n ∷ []) ∷ []))
-Result s (wait-literal l) a t =
-    (a ≡ number (last s + 1)) × (t ≡ added s (derived (waits-line l) [] ∷ []))
+Result s (infer b ns) a t = Added s (infer b ns) a t
+Result s (wait-line n) a t = Added s (wait-line n) a t
+Result s (wait-literal l) a t = Added s (wait-literal l) a t
 Result s (open-loop l gs) a t =
     (a ≡ number (last s + 1)) × (t ≡ record { stage = loop (last s + 1) l gs; given = s .given; lines = s .lines ++ map (assumed l) gs })
 Result s (close ns) a t =
     (a ≡ number (last s + 1)) × (t ≡ record { stage = sealed; given = s .given; lines = s .lines ++ map (nevers (loop-literal (s .stage)) ns) (guards-of (s .stage)) })
 Result s abandon a t =
     (a ≡ number (loop-first (s .stage) - 1)) × (t ≡ record { stage = sealed; given = s .given; lines = take (loop-first (s .stage) - 1) (s .lines) })
-Result s (draw n m) a t =
-    (a ≡ number (last s + 1)) × (t ≡ added s (derived (drawn-clause (clause-at (s .lines) n) (clause-at (s .lines) m)) (n ∷ m ∷ []) ∷ []))
-Result s (draw-alone n) a t =
-    (a ≡ number (last s + 1)) × (t ≡ added s (derived (drawn-alone (clause-at (s .lines) n)) (n ∷ []) ∷ []))
+Result s (draw n m) a t = Added s (draw n m) a t
+Result s (draw-alone n) a t = Added s (draw-alone n) a t
 Result s (refute n row) a t =
     (ns : List ℕ) × Is-core s n ns × (a ≡ core (padded ns) (length ns)) × (t ≡ s)
 Result s (show x) a t = (a ≡ shown (x .lead) (x .loop-length)) × (t ≡ s)

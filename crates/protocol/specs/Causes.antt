@@ -149,22 +149,38 @@ covering ls ns gs =
 abbrev pub refutable : Clause → List Cause
 refutable c = if (Not-refutable c) WrongKind ∷ if (¬ ((now-of c ≡ none) × (next-of c ≡ none))) NotEmpty ∷ []
 
--- the causes of every call
-abbrev pub causes : State → Call → List Cause
-causes s (give c) = if (Over-given c) LetterRange ∷ if (200 ≤ s .given) NoRoom ∷ []
-causes s seal = []
-causes s (infer b ns) = counted b (length ns) ++ (named s ns ++ (consulted (s .lines) b ns ++ full s 1))
-causes s (wait-line n) = named s (n ∷ []) ++ (eventual (clause-at (s .lines) n) ++ full s 1)
-causes s (wait-literal l) = if (19 < l .letter) LetterRange ∷ full s 1
-causes s (open-loop l gs) =
-    if ((19 < l .letter) ⊎ Some-over gs) LetterRange
-    ∷ if ((length gs ≡ 0) ⊎ (8 < length gs)) WrongCount
-    ∷ full s (length gs)
-causes s (close ns) =
+-- the causes of every call but want of room for its lines
+abbrev pub checks : State → Call → List Cause
+checks s (give c) = if (Over-given c) LetterRange ∷ if (200 ≤ s .given) NoRoom ∷ []
+checks s seal = []
+checks s (infer b ns) = counted b (length ns) ++ (named s ns ++ consulted (s .lines) b ns)
+checks s (wait-line n) = named s (n ∷ []) ++ eventual (clause-at (s .lines) n)
+checks s (wait-literal l) = if (19 < l .letter) LetterRange ∷ []
+checks s (open-loop l gs) = if ((19 < l .letter) ⊎ Some-over gs) LetterRange ∷ if ((length gs ≡ 0) ⊎ (8 < length gs)) WrongCount ∷ []
+checks s (close ns) =
     if (¬ (length ns ≡ length (guards-of (s .stage)))) WrongCount
-    ∷ (named s ns ++ (covering (s .lines) ns (guards-of (s .stage)) ++ full s (length ns)))
-causes s abandon = []
-causes s (draw n m) = named s (n ∷ m ∷ []) ++ (drawn (clause-at (s .lines) n) (clause-at (s .lines) m) ++ full s 1)
-causes s (draw-alone n) = named s (n ∷ []) ++ (never (clause-at (s .lines) n) ++ full s 1)
-causes s (refute n row) = if (¬ (length row ≡ 200)) WrongSize ∷ (named s (n ∷ []) ++ refutable (clause-at (s .lines) n))
-causes s (show x) = (λ f. (n i : ℕ) × Lowest-broken s (x .run) n i × (f ≡ fault-at RunBreaks n i)) ∷ []
+    ∷ (named s ns ++ covering (s .lines) ns (guards-of (s .stage)))
+checks s abandon = []
+checks s (draw n m) = named s (n ∷ m ∷ []) ++ drawn (clause-at (s .lines) n) (clause-at (s .lines) m)
+checks s (draw-alone n) = named s (n ∷ []) ++ never (clause-at (s .lines) n)
+checks s (refute n row) = if (¬ (length row ≡ 200)) WrongSize ∷ (named s (n ∷ []) ++ refutable (clause-at (s .lines) n))
+checks s (show x) = (λ f. (n i : ℕ) × Lowest-broken s (x .run) n i × (f ≡ fault-at RunBreaks n i)) ∷ []
+
+-- the lines that a call would add need places among 1,000
+abbrev pub places : State → Call → List Cause
+places s (give c) = []
+places s seal = []
+places s (infer b ns) = full s 1
+places s (wait-line n) = full s 1
+places s (wait-literal l) = full s 1
+places s (open-loop l gs) = full s (length gs)
+places s (close ns) = full s (length ns)
+places s abandon = []
+places s (draw n m) = full s 1
+places s (draw-alone n) = full s 1
+places s (refute n row) = []
+places s (show x) = []
+
+-- the causes of every call, in checking order
+abbrev pub causes : State → Call → List Cause
+causes s c = checks s c ++ places s c

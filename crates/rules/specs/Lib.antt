@@ -1,1 +1,10 @@
 pub mod Books
+pub mod BookLaws
+pub mod Kinds
+pub mod Resolving
+pub mod ResolvingSound
+pub mod Trying
+pub mod Deciding
+pub mod Halves
+pub mod TryingSound
+pub mod Examples

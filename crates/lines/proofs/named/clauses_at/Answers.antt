@@ -26,4 +26,4 @@ loop-i-again c =
     ]
 
 pub returns : need.returns
-returns c h = front-end _ (c .args .ns .now) (c .loop-i .out) (c .loop-i .i) (omega arith) (c .loop-i .inv .1 h)
+returns c = record { long = c .loop-i .inv .0; front = λ h. front-end _ (c .args .ns .now) (c .loop-i .out) (c .loop-i .i) (omega arith) (c .loop-i .inv .1 h) }

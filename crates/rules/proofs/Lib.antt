@@ -1,0 +1,5 @@
+pub mod Accepting
+pub mod Judging
+pub mod Choosing
+pub mod Testing
+pub mod Counting
