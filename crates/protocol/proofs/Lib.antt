@@ -1,4 +1,5 @@
 pub mod Causing
+pub mod Adding
 pub mod Narrow
 pub mod Laws
 pub mod Lines

@@ -90,3 +90,18 @@ Answered s c (refused f) t = First (causes s c) f × (t ≡ s)
 Answered s c (number n) t = None-of (causes s c) × Result s c (number n) t
 Answered s c (core row n) t = None-of (causes s c) × Result s c (core row n) t
 Answered s c (shown i n) t = None-of (causes s c) × Result s c (shown i n) t
+
+-- calls that add one line
+abbrev pub Adding : Call → Type 0
+Adding (give c) = ⊥
+Adding seal = ⊥
+Adding (infer b ns) = Unit {0}
+Adding (wait-line n) = Unit {0}
+Adding (wait-literal l) = Unit {0}
+Adding (open-loop l gs) = ⊥
+Adding (close ns) = ⊥
+Adding abandon = ⊥
+Adding (draw n m) = Unit {0}
+Adding (draw-alone n) = Unit {0}
+Adding (refute n row) = ⊥
+Adding (show x) = ⊥
