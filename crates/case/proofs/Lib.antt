@@ -1,2 +1,4 @@
 pub mod Growing
 pub mod Giving
+pub mod Showing
+pub mod Refuting

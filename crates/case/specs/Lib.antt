@@ -1,3 +1,4 @@
 pub mod View
 pub mod Calling
 pub mod Verdict
+pub mod Looping

@@ -81,7 +81,7 @@ module _ (s : State) (r : Run) (no : ¬ ((n i : ℕ) × Lowest-broken s r n i)) 
 shown-keeps : (s : State) (x : Source) → None-of (causes s (show x)) → Keeps-given s (x .run)
 shown-keeps s x n = none-broken s (x .run) (λ b. n .0 _ (b .0, b .1, b .2, refl))
 
-kept-at : (s : State) (x : Source) (a : Answer) (t : State) → Answered s (show x) a t → (a ≡ shown (x .lead) (x .loop-length)) ↔ Keeps-given s (x .run)
+pub kept-at : (s : State) (x : Source) (a : Answer) (t : State) → Answered s (show x) a t → (a ≡ shown (x .lead) (x .loop-length)) ↔ Keeps-given s (x .run)
 kept-at s x (refused f) t q = (
   (λ e. let z : _≡_ {A = ℕ} 0 1 = cc in absurd (omega arith)),
   λ k. ⊎-elim (λ b. absurd (k (b .0) (b .2 .0) (b .2 .1) (b .1) (b .2 .2))) (λ b. absurd (b .1)) (q .0),
