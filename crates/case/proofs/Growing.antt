@@ -63,6 +63,10 @@ pub set-written : (n : ℕ) (t : List Line) (x : Line) → n < length t → Tidy
 set-written n t x h ty = let e : n + 0 ≡ n = omega arith in
     subst (λ m. Written n t (line-of x ∷ []) (set t m x)) e (written-push n t t [] x (line-of x) (omega arith) refl ty (written-none n t))
 
+pub pushed-on : (b : Body) (t : List Line) (x : Line) (r : Result ℕ Fault) (b′ : Body) (t′ : List Line) → Pushed b t x r b′ t′ → (b .last ≤ b′ .last) × (b′ .given ≡ b .given)
+pushed-on b t x (Ok n) b′ t′ p = (omega (arith, p .2), p .3)
+pushed-on b t x (Err f) b′ t′ p = (omega (arith, ap (λ (q : Body). q .last) (p .2)), ap (λ (q : Body). q .given) (p .2))
+
 module _ (b : Body) (t : List Line) (long : length t ≡ 1000) (st : model.Stage) (c : Call) (ad : Adding c) where
   abbrev here : model.State
   here = view-at st b t

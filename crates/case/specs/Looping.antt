@@ -15,11 +15,12 @@ use Rattle.protocol.specs.Calls.{Call, open-loop, close, abandon, Answer, numbe
 use Rattle.protocol.specs.Causes.{First, None-of, causes, Some-over}
 use Rattle.protocol.specs.Answers.{Answered}
 use Rattle.lines.specs.declared.line.Line.{Line}
-use Rattle.lines.specs.View.{Blanked}
+use Rattle.lines.specs.View.{lines-of, Blanked}
+use Rattle.lines.specs.Named.{at-stage}
 use Rattle.case.specs.declared.stage.Body.{Body}
 use Rattle.case.specs.declared.stage.OpenLoop.{OpenLoop}
 use Rattle.case.specs.declared.stage.Sealed.{Sealed}
-use Rattle.case.specs.View.{view-at, view-sealed, view-loop, guards-in}
+use Rattle.case.specs.View.{view-at, view-sealed, view-loop, guards-in, stage-of}
 use Rattle.case.specs.Calling.{Placed, Onward}
 
 -- the guards in front
@@ -72,3 +73,15 @@ Taken-back (Err p) o t t′ = t′ ≡ t
 
 abbrev pub Abandoned : Result (Sealed × ℕ) (OpenLoop × Fault) → OpenLoop → List Line → List Line → Type 0
 Abandoned r o t t′ = Turned view-loop view-sealed abandon r o t t′ × Taken-back r o t t′
+
+-- the loop with another body
+pub record Moved (o : OpenLoop) (b : Body) (o′ : OpenLoop) : Type 0 where
+  pub body-is : o′ .body ≡ b
+  pub first : o′ .first ≡ o .first
+  pub literal : o′ .literal ≡ o .literal
+  pub guards : guards-in o′ ≡ guards-in o
+
+-- a close of a loop whose lines are these
+abbrev pub Close-checked : OpenLoop → List Line → List ℕ → Result Unit Fault → Type 0
+Close-checked o ls ns (Ok _) = length ls ≡ o .body .last → None-of (causes (at-stage (stage-of o) (o .body .given) (lines-of ls)) (close ns)) × (length ns ≡ length (guards-in o)) × (o .body .last + length ns ≤ 1000)
+Close-checked o ls ns (Err f) = length ls ≡ o .body .last → First (causes (at-stage (stage-of o) (o .body .given) (lines-of ls)) (close ns)) f

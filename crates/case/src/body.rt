@@ -1,4 +1,5 @@
 ghost use mathlib.Core.Path.{_≡_};
+ghost use Prim.Native.Nat.{_≤_};
 ghost use lib.ListN.{length, take};
 ghost use Rattle.case.specs.Calling.{Pushed, Adds-draft};
 use crate::stage::Body;
@@ -28,9 +29,15 @@ impl Body {
     }
 
     // Adds the line drafted, where it was not refused and there is a place for it.
-    pub(crate) fn add(&mut self, table: &mut [Line], draft: Result<Line, Fault>) -> Result<u16, Fault>
+    pub(crate) fn add(
+        &mut self,
+        table: &mut [Line],
+        draft: Result<Line, Fault>,
+    ) -> Result<u16, Fault>
         requires { ⌜ length (now table) ≡ 1000 ⌝ }
-        ensures { λ r. ⌜ Adds-draft draft r (now (self .entry)) (now (table .entry)) (now (self .exit)) (now (table .exit)) ⌝ }
+        ensures on { λ _. ⌜ now (self .entry) .last ≤ now (self .exit) .last ⌝ }
+        ensures given { λ _. ⌜ now (self .exit) .given ≡ now (self .entry) .given ⌝ }
+        ensures adds { λ r. ⌜ Adds-draft draft r (now (self .entry)) (now (table .entry)) (now (self .exit)) (now (table .exit)) ⌝ }
     {
         match draft {
             Err(f) => Err(f),

@@ -6,7 +6,7 @@ ghost use Rattle.protocol.specs.Calls.{infer as the-infer, open-loop, close as 
 ghost use Rattle.protocol.specs.Causes.{Some-over};
 ghost use Rattle.case.specs.View.{view-loop, guards-in};
 ghost use Rattle.case.specs.Calling.{Called, answer-of};
-ghost use Rattle.case.specs.Looping.{Copied, Loop-of, Opened, Open-checked};
+ghost use Rattle.case.specs.Looping.{Copied, Loop-of, Opened, Open-checked, Moved, Close-checked, Closed, Abandoned};
 use crate::stage::Body;
 use crate::stage::OpenLoop;
 use crate::stage::Sealed;
@@ -108,5 +108,138 @@ impl Sealed {
                 Ok((open, first))
             }
         }
+    }
+}
+
+impl OpenLoop {
+    fn guard_list(&self) -> &[LitSet]
+        ensures exact { λ r. ⌜ now r ≡ guards-in (now (self .entry)) ⌝ }
+        ensures few { λ r. ⌜ length (now r) ≤ 8 ⌝ }
+    {
+        &self.guards[0..self.count as usize]
+    }
+
+    fn advance(&mut self, body: Body)
+        requires on { ⌜ now self .body .last ≤ body .last ⌝ }
+        requires given { ⌜ body .given ≡ now self .body .given ⌝ }
+        ensures { λ _. ⌜ Moved (now (self .entry)) body (now (self .exit)) ⌝ }
+    {
+        self.body = body;
+    }
+
+    // Adds the conclusion of a rule book.
+    pub fn infer<B: RuleBook>(
+        &mut self,
+        table: &mut [Line],
+        book: &B,
+        cites: &[u16],
+        evidence: B::Evidence,
+    ) -> Result<u16, Fault>
+        ensures { λ r. ⌜ Called view-loop (the-infer (meaning (now (book .entry)) evidence) (now (cites .entry))) (answer-of r) (now (self .entry)) (now (table .entry)) (now (self .exit)) (now (table .exit)) ⌝ }
+    {
+        if table.len() != 1000 {
+            return Err(Fault::of(Refusal::WrongSize));
+        }
+        let mut body = self.body;
+        let draft = inferred(body.lines(table), self.first, book, cites, evidence);
+        let answer = body.add(table, draft);
+        self.advance(body);
+        answer
+    }
+
+    // Tests a close but for the table's size.
+    fn check_close(&self, lines: &[Line], covers: &[u16]) -> Result<(), Fault>
+        ensures { λ r. ⌜ Close-checked (now (self .entry)) (now (lines .entry)) (now (covers .entry)) r ⌝ }
+    {
+        let guards = self.guard_list();
+        if covers.len() != guards.len() {
+            return Err(Fault::of(Refusal::WrongCount));
+        }
+        check_named(lines, self.first, covers)?;
+        if some_not_global(lines, covers) {
+            return Err(Fault::of(Refusal::WrongKind));
+        }
+        if let Some(place) = unfit(lines, covers, guards) {
+            return Err(Fault::at(Refusal::CoverMisfit, 0, place));
+        }
+        if lines.len() + covers.len() > 1000 {
+            return Err(Fault::of(Refusal::NoRoom));
+        }
+        Ok(())
+    }
+
+    fn closed(self, count: u16) -> Sealed
+        requires { ⌜ self .body .last + count ≤ 1000 ⌝ }
+        ensures last { λ r. ⌜ r .body .last ≡ self .body .last + count ⌝ }
+        ensures given { λ r. ⌜ r .body .given ≡ self .body .given ⌝ }
+    {
+        let OpenLoop {
+            body,
+            first: _,
+            literal: _,
+            guards: _,
+            count: _,
+        } = self;
+        let body = body.grown(count);
+        Sealed { body }
+    }
+
+    // Ends the loop with one cover for each guard: adds a never line for each guard, and answers the number of the first.
+    pub fn close(
+        self,
+        table: &mut [Line],
+        covers: &[u16],
+    ) -> Result<(Sealed, u16), (OpenLoop, Fault)>
+        ensures { λ r. ⌜ Closed (the-close (now (covers .entry))) r self (now (table .entry)) (now (table .exit)) ⌝ }
+    {
+        if table.len() != 1000 {
+            return Err((self, Fault::of(Refusal::WrongSize)));
+        }
+        match self.check_close(self.body.lines(table), covers) {
+            Err(f) => Err((self, f)),
+            Ok(()) => {
+                conclude(
+                    table,
+                    self.body.last,
+                    self.literal,
+                    covers,
+                    self.guard_list(),
+                );
+                let first = self.body.last + 1;
+                let sealed = self.closed(covers.len() as u16);
+                Ok((sealed, first))
+            }
+        }
+    }
+
+    fn taken_back(self) -> Sealed
+        ensures last { λ r. ⌜ r .body .last ≡ self .first - 1 ⌝ }
+        ensures given { λ r. ⌜ r .body .given ≡ self .body .given ⌝ }
+    {
+        let OpenLoop {
+            body,
+            first,
+            literal: _,
+            guards: _,
+            count: _,
+        } = self;
+        let body = Body {
+            last: first - 1,
+            given: body.given,
+        };
+        Sealed { body }
+    }
+
+    // Ends the loop without a result: removes every line since it was opened, and answers the last number.
+    pub fn abandon(self, table: &mut [Line]) -> Result<(Sealed, u16), (OpenLoop, Fault)>
+        ensures { λ r. ⌜ Abandoned r self (now (table .entry)) (now (table .exit)) ⌝ }
+    {
+        if table.len() != 1000 {
+            return Err((self, Fault::of(Refusal::WrongSize)));
+        }
+        let last = self.first - 1;
+        blank_from(table, last);
+        let sealed = self.taken_back();
+        Ok((sealed, last))
     }
 }

@@ -2,9 +2,9 @@
 ghost use mathlib.Core.Path.{_≡_};
 ghost use lib.ListN.{length};
 ghost use Rattle.cores.specs.Cored.{Fits-row, Cored};
-use lines::line::Line;
 use crate::marks::write_marked;
 use crate::sweep::reached;
+use lines::line::Line;
 
 mod marks;
 mod sweep;

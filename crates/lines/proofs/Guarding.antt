@@ -53,6 +53,5 @@ copy-more cs out i d p q h = take-more-set out i (getD cs i d) q ∙ ap (λ f. f
 pub copy-end : {X : Type 0} (cs out : List X) (i : ℕ) → i ≡ length cs → take i out ≡ take i cs → take (length cs) out ≡ cs
 copy-end cs out i e h = ap (λ k. take k out) (sym e) ∙ h ∙ take-all i cs (omega arith)
 
-
 pub not-over-at : (gs : List LitSet) (i : ℕ) → i < length gs → ¬ Some-over gs → ¬ Over 59 (getD gs i none)
 not-over-at gs i h o p = o (over-at gs i h p)

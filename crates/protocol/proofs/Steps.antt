@@ -52,7 +52,7 @@ fresh-inv = record {
   sound = λ n h k. absurd (omega arith);
   sound-here = λ n h k. absurd (omega arith);
   loop-small = omega arith;
-      loop-narrow = tt;
+  loop-narrow = tt;
   placed = tt;
 }
 
@@ -88,7 +88,7 @@ seal-inv g ls inv = record {
   sound = inv .sound;
   sound-here = λ n h k _ q. absurd (false≢true q);
   loop-small = omega arith;
-      loop-narrow = tt;
+  loop-narrow = tt;
   placed = tt;
 }
 

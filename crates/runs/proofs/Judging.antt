@@ -139,9 +139,9 @@ module _ (x : Source) (asked : ℕ) (ws : List ℕ) (n : length ws ≡ end-of x)
     gone-is : (i : ℕ) → i < end-of x → Gone ws (x .lead) l i ↔ ((j : ℕ) → i ≤ j → ¬ Plain-true (x .run) j l)
     gone-is i b = (
       (λ g j h t. let w = like x j in let j′ = w .0 in let lt = w .1 .below in
-      both-ways (true-in (getD ws j′ 0) l)
-      (g j′ (omega arith) (⊎-elim (λ z. inl (w .1 .above i (omega arith) h)) (λ z. inr (w .1 .above (x .lead) (omega arith) (omega arith))) (cases-lt i (x .lead + 1))))
-      (true-to (x .run) j′ (getD ws j′ 0) l (letter-is j′ lt) (true-moves (x .run) j j′ (w .1 .same) l t))),
+          both-ways (true-in (getD ws j′ 0) l)
+          (g j′ (omega arith) (⊎-elim (λ z. inl (w .1 .above i (omega arith) h)) (λ z. inr (w .1 .above (x .lead) (omega arith) (omega arith))) (cases-lt i (x .lead + 1))))
+          (true-to (x .run) j′ (getD ws j′ 0) l (letter-is j′ lt) (true-moves (x .run) j j′ (w .1 .same) l t))),
       λ f j h c. let lt : j < end-of x = omega arith in untrue-to (x .run) j (getD ws j 0) l (letter-is j lt)
           (λ t. ⊎-elim (λ z. f j z t) (λ z. let w = again x j i z in f (w .0) (w .1) (w .3 (l .letter) ∙ t)) c),
     )
@@ -149,7 +149,7 @@ module _ (x : Source) (asked : ℕ) (ws : List ℕ) (n : length ws ≡ end-of x)
     comes-is : (i : ℕ) → i < end-of x → Comes ws (x .lead) l i ↔ ((j : ℕ) × (i < j) × Plain-true (x .run) j l)
     comes-is i b = (
       (λ (j, h, c, t). let lt : j < end-of x = omega arith in let p = true-from (x .run) j (getD ws j 0) l (letter-is j lt) t in
-      ⊎-elim (λ z. (j, z, p)) (λ z. let w = again x j (i + 1) z in (w .0, omega (arith, w .1), w .3 (l .letter) ∙ p)) c),
+          ⊎-elim (λ z. (j, z, p)) (λ z. let w = again x j (i + 1) z in (w .0, omega (arith, w .1), w .3 (l .letter) ∙ p)) c),
       λ (j, h, t). let w = like x j in let j′ = w .0 in let lt = w .1 .below in (
         j′,
         omega arith,

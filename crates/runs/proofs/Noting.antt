@@ -20,7 +20,7 @@ module _ (t : ℕ → Bool) (k : ℕ) (ws₀ ws : List ℕ) (i : ℕ) (q : Noted
   noted-hit w h e ew j = ⊎-elim
       (λ z. (
         (λ _. subst (λ n. getD (set ws i w) n 0 ≡ noted (t n) k (getD ws₀ n 0)) (sym z)
-        (getD-set-same ws i w 0 h ∙ ew ∙ ap (λ n. bitOr n (2 ^ k)) (q i .1 (omega arith)) ∙ sym (ap (λ b. noted b k (getD ws₀ i 0)) e))),
+            (getD-set-same ws i w 0 h ∙ ew ∙ ap (λ n. bitOr n (2 ^ k)) (q i .1 (omega arith)) ∙ sym (ap (λ b. noted b k (getD ws₀ i 0)) e))),
         λ l. absurd (omega arith),
       ))
       (λ n. let o = getD-set-other ws i j w 0 n in ((λ l. o ∙ q j .0 (omega arith)), λ l. o ∙ q j .1 (omega arith)))

@@ -65,11 +65,13 @@ seen-is r asked i (suc k) j h a = ⊎-elim
 
 -- the worlds with the plain letters wanted
 pub below-plain : (x : Source) (asked : ℕ) (ws : List ℕ) → ((i : ℕ) → i < end-of x → getD ws i 0 ≡ seen (x .run) (wanted asked) i 20) → Noted-below x asked 20 ws
-below-plain x asked ws q = record { noted-at = λ i h j. (
-  (λ l a. subst (λ n. In j n ↔ (x .run i j ≡ true)) (sym (q i h)) (seen-is (x .run) (wanted asked) i 20 j l a)),
-  (λ l l′. absurd (omega arith)),
-  λ l _ b. seen-high (x .run) (wanted asked) i 20 j l (subst (In j) (q i h) b),
-) }
+below-plain x asked ws q = record {
+  noted-at = λ i h j. (
+    (λ l a. subst (λ n. In j n ↔ (x .run i j ≡ true)) (sym (q i h)) (seen-is (x .run) (wanted asked) i 20 j l a)),
+    (λ l l′. absurd (omega arith)),
+    λ l _ b. seen-high (x .run) (wanted asked) i 20 j l (subst (In j) (q i h) b),
+  );
+}
 
 -- a literal in a world that has its letter
 module _ (r : Run) (i w : ℕ) (l : Literal) (q : In (l .letter) w ↔ (r i (l .letter) ≡ true)) where
@@ -97,7 +99,7 @@ comes-to r l (Some n) i h w = ⊎-elim (λ b. lt-ltb (i + 1) n b) (λ b. absurd 
 pub waits-is : (r : Run) (i w : ℕ) (l : Literal) (o : Option ℕ) → (In (l .letter) w ↔ (r i (l .letter) ≡ true)) → Horizon r l o → (waits-in o l i w ≡ true) ↔ Waits r i l
 waits-is r i w l o q h = (
   (λ e. let p = and-parts (not (true-in w l)) (comes-after o i) e in
-  ((λ t. both-ways (true-in w l) (not-true _ (p .0)) (true-to r i w l q t)), comes-from r l o i h (p .1))),
+      ((λ t. both-ways (true-in w l) (not-true _ (p .0)) (true-to r i w l q t)), comes-from r l o i h (p .1))),
   λ e. and-from (not (true-in w l)) (comes-after o i) (not-from-false _ (untrue-to r i w l q (e .0))) (comes-to r l o i h (e .1)),
 )
 
@@ -116,6 +118,7 @@ want-waited asked k h a = ⊎-elim
   where
     low : k < 40 → waited k ≡ record { letter = k - 20; positive = true }
     low l = rw (lt-ltb k 40 l, waited) refl
+
     high : 40 ≤ k → waited k ≡ record { letter = k - 40; positive = false }
     high l = rw (le-ltb k 40 l, waited) refl
 
@@ -123,29 +126,32 @@ want-waited asked k h a = ⊎-elim
 module _ (x : Source) (asked k : ℕ) (ws : List ℕ) (h : 20 ≤ k) (q : Noted-below x asked k ws) where
   pub below-hit : (ws′ : List ℕ) (o : Option ℕ) (l : Literal) → l ≡ waited k → l .letter < 20 → In k asked → Horizon (x .run) l o
       → ((i : ℕ) → i < end-of x → getD ws′ i 0 ≡ noted (waits-in o l i (getD ws i 0)) k (getD ws i 0)) → Noted-below x asked (k + 1) ws′
-  below-hit ws′ o l is low a hz e = record { noted-at = λ i b j.
-      let w = getD ws i 0 in
-      let t = waits-in o l i w in
-      let to : (m : ℕ) (P : Type 0) → In m (noted t k w) ↔ P → In m (getD ws′ i 0) ↔ P = λ m P f. subst (λ n. In m n ↔ P) (sym (e i b)) f in
-      let pl : In (l .letter) w ↔ (x .run i (l .letter) ≡ true) = q .noted-at i b (l .letter) .0 low (subst (λ (z : Literal). In (z .letter) (wanted asked)) (sym is) (want-waited asked k h a)) in
-      let here = waits-is (x .run) i w l o pl hz in
-      let same = in-noted-same t k w (q .noted-at i b k .2 (omega arith) h) in
-      (
-        (λ z v. let n : ¬ (j ≡ k) = λ y. omega arith in let f = in-noted-other t k j w n in let f′ = q .noted-at i b j .0 z v in to j _ ((λ y. f′ .0 (f .0 y)), λ y. f .1 (f′ .1 y))),
-        (λ z z′ v. ⊎-elim
-        (λ y. subst (λ m. In m (getD ws′ i 0) ↔ Waits (x .run) i (waited m)) (sym y)
-        (to k _ ((λ p. subst (Waits (x .run) i) is (here .0 (same .0 p))), λ p. same .1 (here .1 (subst (Waits (x .run) i) (sym is) p)))))
-        (λ n. let f = in-noted-other t k j w n in let f′ = q .noted-at i b j .1 z (omega arith) v in to j _ ((λ y. f′ .0 (f .0 y)), λ y. f .1 (f′ .1 y)))
-        (cases-eq j k)),
-        λ z z′ p. let n : ¬ (j ≡ k) = λ y. omega arith in q .noted-at i b j .2 (omega arith) z′ (in-noted-other t k j w n .0 (subst (In j) (e i b) p)),
-      ) }
+  below-hit ws′ o l is low a hz e = record {
+    noted-at = λ i b j.
+        let w = getD ws i 0 in
+        let t = waits-in o l i w in
+        let to : (m : ℕ) (P : Type 0) → In m (noted t k w) ↔ P → In m (getD ws′ i 0) ↔ P = λ m P f. subst (λ n. In m n ↔ P) (sym (e i b)) f in
+        let pl : In (l .letter) w ↔ (x .run i (l .letter) ≡ true) = q .noted-at i b (l .letter) .0 low (subst (λ (z : Literal). In (z .letter) (wanted asked)) (sym is) (want-waited asked k h a)) in
+        let here = waits-is (x .run) i w l o pl hz in
+        let same = in-noted-same t k w (q .noted-at i b k .2 (omega arith) h) in (
+          (λ z v. let n : ¬ (j ≡ k) = λ y. omega arith in let f = in-noted-other t k j w n in let f′ = q .noted-at i b j .0 z v in to j _ ((λ y. f′ .0 (f .0 y)), λ y. f .1 (f′ .1 y))),
+          (λ z z′ v. ⊎-elim
+              (λ y. subst (λ m. In m (getD ws′ i 0) ↔ Waits (x .run) i (waited m)) (sym y)
+              (to k _ ((λ p. subst (Waits (x .run) i) is (here .0 (same .0 p))), λ p. same .1 (here .1 (subst (Waits (x .run) i) (sym is) p)))))
+              (λ n. let f = in-noted-other t k j w n in let f′ = q .noted-at i b j .1 z (omega arith) v in to j _ ((λ y. f′ .0 (f .0 y)), λ y. f .1 (f′ .1 y)))
+              (cases-eq j k)),
+          λ z z′ p. let n : ¬ (j ≡ k) = λ y. omega arith in q .noted-at i b j .2 (omega arith) z′ (in-noted-other t k j w n .0 (subst (In j) (e i b) p)),
+        );
+  }
 
   pub below-miss : ¬ In k asked → Noted-below x asked (k + 1) ws
-  below-miss a = record { noted-at = λ i b j. (
-    q .noted-at i b j .0,
-    (λ z z′ v. ⊎-elim (λ y. absurd (a (subst (λ m. In m asked) y v))) (λ n. q .noted-at i b j .1 z (omega arith) v) (cases-eq j k)),
-    λ z z′ p. q .noted-at i b j .2 (omega arith) z′ p,
-  ) }
+  below-miss a = record {
+    noted-at = λ i b j. (
+      q .noted-at i b j .0,
+      (λ z z′ v. ⊎-elim (λ y. absurd (a (subst (λ m. In m asked) y v))) (λ n. q .noted-at i b j .1 z (omega arith) v) (cases-eq j k)),
+      λ z z′ p. q .noted-at i b j .2 (omega arith) z′ p,
+    );
+  }
 
 -- all letters noted
 pub world-is : (x : Source) (asked : ℕ) (ws : List ℕ) → Noted-below x asked 60 ws → (i : ℕ) → i < end-of x → World (x .run) asked i (getD ws i 0)

@@ -83,13 +83,7 @@ impl Timetable {
     }
 
     // Sets the task of a letter, in place of the one that it had.
-    pub fn assign(
-        &mut self,
-        letter: u8,
-        offset: u16,
-        period: u16,
-        length: u16,
-    ) -> Result<(), Fault>
+    pub fn assign(&mut self, letter: u8, offset: u16, period: u16, length: u16) -> Result<(), Fault>
         ensures { λ r. ⌜ Assigned letter offset period length (now (self .entry)) (now (self .exit)) r ⌝ }
     {
         if letter > 19 {

@@ -87,7 +87,11 @@ fn first_initial(worlds: &[u64], n: LitSet) -> Option<u16>
     requires some { ⌜ 0 < length (now worlds) ⌝ }
     ensures { λ r. ⌜ ((lead : ℕ) → Judged (now (worlds .entry)) lead (Clause.Initial n) r) ⌝ }
 {
-    if n.untrue_in(worlds[0]) { Some(0) } else { None }
+    if n.untrue_in(worlds[0]) {
+        Some(0)
+    } else {
+        None
+    }
 }
 
 impl Moments {

@@ -12,7 +12,8 @@ use Rattle.drafts.proofs.waits.waits.Needs as need
 pub returns : need.returns
 returns c t g h =
     let low : c .args .l .letter ≤ 19 = omega arith in
-    let e = c .waits-clause .ensures low in
-    ((not-if _ _ (λ q. omega arith), tt),
-    c .citing .ensures .exact (subst (λ (k : Clause). Narrow k) (sym e) (narrow-waits (c .args .l) low)) (omega arith) ∙ ap (λ (k : Clause). derived k []) e,
-    c .citing .ensures .tidy)
+    let e = c .waits-clause .ensures low in (
+      (not-if _ _ (λ q. omega arith), tt),
+      c .citing .ensures .exact (subst (λ (k : Clause). Narrow k) (sym e) (narrow-waits (c .args .l) low)) (omega arith) ∙ ap (λ (k : Clause). derived k []) e,
+      c .citing .ensures .tidy,
+    )

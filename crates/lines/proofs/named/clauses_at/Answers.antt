@@ -18,10 +18,10 @@ loop-i-again c =
     let ls = lines-of (c .args .lines .now) in
     elim (c .if-i-lt8 .came) [
       | then-i-lt8 w ↦ (
-          ap length (w .out-is) ∙ length-set (c .loop-i .out) i _ ∙ c .loop-i .inv .0,
-          λ h. ap (take (i + 1)) (w .out-is) ∙ front-more (clause-at ls) ns (c .loop-i .out) i _ (c .loop-i-test .taken) (let l = w .if-i-lt8 .taken in omega (arith, c .loop-i .inv .0))
-              (ap (λ (x : Line). x .clause) (w .line-at-line .ensures)) (c .loop-i .inv .1 h),
-        )
+        ap length (w .out-is) ∙ length-set (c .loop-i .out) i _ ∙ c .loop-i .inv .0,
+        λ h. ap (take (i + 1)) (w .out-is) ∙ front-more (clause-at ls) ns (c .loop-i .out) i _ (c .loop-i-test .taken) (let l = w .if-i-lt8 .taken in omega (arith, c .loop-i .inv .0))
+            (ap (λ (x : Line). x .clause) (w .line-at-line .ensures)) (c .loop-i .inv .1 h),
+      )
       | else-i-lt8 w ↦ (ap length (w .out-is) ∙ c .loop-i .inv .0, λ h. absurd (let l = w .if-i-lt8 .left in omega arith))
     ]
 

@@ -17,4 +17,4 @@ returns g c =
     let k = infer (g .B·RuleBook .meaning (c .args .book .now) (c .args .evidence)) (c .args .cites .now) in
     let long : length t ≡ 1000 = omega arith in
     sealed-adds k _ (c .add .result) s t _ _ long (c .add .kept .table) tt tt
-    (stage-draft k _ (s .body) t (c .lines .result .now) 1001 sealed long (c .lines .ensures) (sealed-stage (s .body)) (c .inferred-draft .ensures)) (c .add .ensures)
+    (stage-draft k _ (s .body) t (c .lines .result .now) 1001 sealed long (c .lines .ensures) (sealed-stage (s .body)) (c .inferred-draft .ensures)) (c .add .ensures .adds)

@@ -13,4 +13,4 @@ pub returns : need.returns
 returns c =
     let s = c .args .self .now in let t = c .args .table .now in let k = wait-literal (c .args .l) in
     let long : length t ≡ 1000 = omega arith in
-    sealed-adds k _ (c .add .result) s t _ _ long (c .add .kept .table) tt tt (sealed-draft k _ (s .body) t (take (s .body .last) t) long refl (c .waits-draft .ensures (take (s .body .last) t))) (c .add .ensures)
+    sealed-adds k _ (c .add .result) s t _ _ long (c .add .kept .table) tt tt (sealed-draft k _ (s .body) t (take (s .body .last) t) long refl (c .waits-draft .ensures (take (s .body .last) t))) (c .add .ensures .adds)
