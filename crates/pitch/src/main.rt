@@ -1,0 +1,114 @@
+// Three tasks on a pitch processor: a timetable that needs eleven milliseconds of every ten, one that fits, and a derivation.
+use case::stage::Intake;
+use clause::refusal::Fault;
+use clause::syntax::Clause;
+use lines::line::Line;
+use runs::assign;
+use runs::source::RunSource;
+use runs::times::TimetableRun;
+use runs::timetable::Timetable;
+use std::io;
+
+mod derive;
+mod frame;
+
+fn task_name(k: u8) -> &'static str {
+    match k {
+        0 => "interrupt entry",
+        1 => "converter read",
+        _ => "bus send",
+    }
+}
+
+// What a given line of the frame says.
+fn clause_name(line: u16) -> &'static str {
+    match line {
+        1 => "interrupt entry and converter read never run in the same millisecond",
+        2 => "interrupt entry and bus send never run in the same millisecond",
+        3 => "converter read and bus send never run in the same millisecond",
+        4 => "interrupt entry is heard again and again",
+        5 => "converter read is heard again and again",
+        _ => "bus send is heard again and again",
+    }
+}
+
+fn print_clauses(rt: &impl Print) -> io::Result<()> {
+    println!(
+        rt,
+        "Pitch processor: three tasks, one processor, frames of 10 ms."
+    )?;
+    println!(rt, "Given:")?;
+    for line in 1..7u16 {
+        println!(rt, "  {line}  {}", clause_name(line))?;
+    }
+    Ok(())
+}
+
+fn print_tasks(rt: &impl Print, lengths: [u16; 3]) -> io::Result<()> {
+    for k in 0..3u8 {
+        let offset = frame::offset(k);
+        let length = lengths[k as usize];
+        println!(
+            rt,
+            "  {}: {length} of every 10 ms, from {offset} ms on",
+            task_name(k)
+        )?;
+    }
+    Ok(())
+}
+
+fn print_verdict(rt: &impl Print, verdict: Result<(u16, u16), Fault>) -> io::Result<()> {
+    match verdict {
+        Ok((lead_in, turn)) => {
+            println!(
+                rt,
+                "  kept over endless time: lead-in {lead_in} ms, then a loop of {turn} ms"
+            )
+        }
+        Err(f) => {
+            println!(
+                rt,
+                "  refused ({}): line {} is broken at {} ms: {}",
+                f.number(),
+                f.line,
+                f.detail,
+                clause_name(f.line)
+            )
+        }
+    }
+}
+
+fn print_core(
+    rt: &impl Print,
+    verdict: Result<(u16, u16), Fault>,
+    row: &[u16; 200],
+) -> io::Result<()> {
+    match verdict {
+        Ok((line, count)) => {
+            print!(rt, "  contradiction: line {line} is empty, its core is")?;
+            for n in row.iter().take(count as usize) {
+                print!(rt, " {n}")?;
+            }
+            println!(rt, "")
+        }
+        Err(f) => println!(rt, "  refused ({})", f.number()),
+    }
+}
+
+fn main(rt: LibcRuntime) -> io::Result<()> {
+    let mut table = [Line::blank(); 1000];
+    let mut row = [0u16; 200];
+    print_clauses(&rt)?;
+    println!(rt, "Eleven milliseconds of every ten:")?;
+    print_tasks(&rt, [4, 4, 3])?;
+    print_verdict(&rt, frame::judge(&mut table, [4, 4, 3]))?;
+    println!(rt, "Ten milliseconds of every ten:")?;
+    print_tasks(&rt, [4, 4, 2])?;
+    print_verdict(&rt, frame::judge(&mut table, [4, 4, 2]))?;
+    println!(
+        rt,
+        "A supplier's figures that contradict each other, by a derivation with a loop:"
+    )?;
+    let verdict = derive::contradict(&mut table, &mut row);
+    print_core(&rt, verdict, &row)
+}
