@@ -1,5 +1,5 @@
 // Every cause of a refusal, in checking order. `specs/Refusals.antt` gives each its number and its layer.
-#[derive(Clone, Copy, PartialEq, Eq, Debug)]
+#[derive(Clone, Copy, PartialEq, Eq)]
 pub enum Refusal {
     // the table is not 1,000 records, or a lent row not of its length
     WrongSize,
@@ -50,7 +50,7 @@ pub enum Refusal {
 }
 
 // Where a refusal arises.
-#[derive(Clone, Copy, PartialEq, Eq, Debug)]
+#[derive(Clone, Copy, PartialEq, Eq)]
 pub enum Layer {
     Text,
     Clauses,
@@ -60,7 +60,7 @@ pub enum Layer {
 }
 
 // Why a call was refused, and where: the line, the field and the detail are 0 where they say nothing.
-#[derive(Clone, Copy, PartialEq, Eq, Debug)]
+#[derive(Clone, Copy, PartialEq, Eq)]
 pub struct Fault {
     pub refusal: Refusal,
     pub line: u16,

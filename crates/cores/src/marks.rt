@@ -5,7 +5,7 @@ ghost use Rattle.protocol.specs.Cores.{padded};
 ghost use Rattle.cores.specs.Marks.{Marked-too, marked-to};
 
 // Marks the numbers of `cites` that are below `k`.
-pub fn mark_below(marks: &mut [bool], cites: &[u16], k: u16)
+pub(crate) fn mark_below(marks: &mut [bool], cites: &[u16], k: u16)
     requires { ⌜ k ≤ length (now marks) ⌝ }
     ensures { λ _. ⌜ Marked-too (now (cites .entry)) k (now (marks .entry)) (now (marks .exit)) ⌝ }
 {
@@ -17,7 +17,7 @@ pub fn mark_below(marks: &mut [bool], cites: &[u16], k: u16)
 }
 
 // Writes the marked numbers from 1 to `given` into the row, and zeros after them.
-pub fn write_marked(marks: &[bool], given: u16, row: &mut [u16]) -> u16
+pub(crate) fn write_marked(marks: &[bool], given: u16, row: &mut [u16]) -> u16
     requires marked { ⌜ length (now marks) ≡ 1001 ⌝ }
     requires few { ⌜ given ≤ 200 ⌝ }
     requires long { ⌜ length (now row) ≡ 200 ⌝ }

@@ -7,7 +7,7 @@ use crate::marks::mark_below;
 use lines::line::Line;
 
 // Marks the lines that line n reaches, from n down: each line cites earlier ones alone.
-pub fn reached(lines: &[Line], n: u16) -> [bool; 1001]
+pub(crate) fn reached(lines: &[Line], n: u16) -> [bool; 1001]
     requires few { ⌜ length (now lines) ≤ 1000 ⌝ }
     requires there { ⌜ n ≤ length (now lines) ⌝ }
     ensures long { λ r. ⌜ length r ≡ 1001 ⌝ }

@@ -1,12 +1,6 @@
 // Three tasks on a pitch processor: a timetable that needs eleven milliseconds of every ten, one that fits, and a derivation.
-use case::stage::Intake;
 use clause::refusal::Fault;
-use clause::syntax::Clause;
 use lines::line::Line;
-use runs::assign;
-use runs::source::RunSource;
-use runs::times::TimetableRun;
-use runs::timetable::Timetable;
 use std::io;
 
 mod derive;
