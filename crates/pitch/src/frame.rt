@@ -50,7 +50,7 @@ fn give_frame(table: &mut [Line]) -> Result<Sealed, Fault> {
 }
 
 // The tasks follow one another: the first from 0 ms on, the second from 4, the third from 8.
-pub fn offset(k: u8) -> u16 {
+pub(crate) fn offset(k: u8) -> u16 {
     4 * k as u16
 }
 
@@ -63,7 +63,7 @@ fn timetable(lengths: [u16; 3]) -> Result<Timetable, Fault> {
 }
 
 // Judges a timetable of the three tasks: its lead-in and loop, or the lowest line broken.
-pub fn judge(table: &mut [Line], lengths: [u16; 3]) -> Result<(u16, u16), Fault> {
+pub(crate) fn judge(table: &mut [Line], lengths: [u16; 3]) -> Result<(u16, u16), Fault> {
     let sealed = give_frame(table)?;
     let times = timetable(lengths)?;
     sealed.show(table, &times)

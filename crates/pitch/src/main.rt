@@ -5,6 +5,7 @@ use std::io;
 
 mod derive;
 mod frame;
+mod longest;
 
 fn task_name(k: u8) -> &'static str {
     match k {
@@ -89,6 +90,15 @@ fn print_core(
     }
 }
 
+// How far a timetable reaches.
+fn print_longest(rt: &impl Print, offset: u16) -> io::Result<()> {
+    print!(rt, "  periods of 63 and 64 ms, the second from {offset} ms on: ")?;
+    match longest::longest(offset) {
+        Ok((lead_in, turn)) => println!(rt, "lead-in {lead_in} ms, loop {turn} ms"),
+        Err(f) => println!(rt, "refused ({})", f.number()),
+    }
+}
+
 fn main(rt: LibcRuntime) -> io::Result<()> {
     let mut table = [Line::blank(); 1000];
     let mut row = [0u16; 200];
@@ -99,6 +109,9 @@ fn main(rt: LibcRuntime) -> io::Result<()> {
     println!(rt, "Ten milliseconds of every ten:")?;
     print_tasks(&rt, [4, 4, 2])?;
     print_verdict(&rt, frame::judge(&mut table, [4, 4, 2]))?;
+    println!(rt, "A timetable's lead-in and loop span at most 4096 ms:")?;
+    print_longest(&rt, 64)?;
+    print_longest(&rt, 65)?;
     println!(
         rt,
         "A supplier's figures that contradict each other, by a derivation with a loop:"
