@@ -84,7 +84,10 @@ fn never_again(sealed: Sealed, table: &mut [Line]) -> Result<Sealed, Fault>
 }
 
 // Derives the empty initial line, refutes it, and answers its number and the count of its core.
-pub(crate) fn contradict(table: &mut [Line; 1000], row: &mut [u16; 200]) -> Result<(u16, u16), Fault> {
+pub(crate) fn contradict(
+    table: &mut [Line; 1000],
+    row: &mut [u16; 200],
+) -> Result<(u16, u16), Fault> {
     let sealed = give_figures(table)?;
     let mut sealed = never_again(sealed, table)?;
     sealed.draw(table, 9, 4)?;

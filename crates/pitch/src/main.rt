@@ -92,7 +92,10 @@ fn print_core(
 
 // How far a timetable reaches.
 fn print_longest(rt: &impl Print, offset: u16) -> io::Result<()> {
-    print!(rt, "  periods of 63 and 64 ms, the second from {offset} ms on: ")?;
+    print!(
+        rt,
+        "  periods of 63 and 64 ms, the second from {offset} ms on: "
+    )?;
     match longest::longest(offset) {
         Ok((lead_in, turn)) => println!(rt, "lead-in {lead_in} ms, loop {turn} ms"),
         Err(f) => println!(rt, "refused ({})", f.number()),

@@ -7,4 +7,3 @@ pub mod Trying
 pub mod Deciding
 pub mod Halves
 pub mod TryingSound
-pub mod Examples

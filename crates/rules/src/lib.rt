@@ -1,5 +1,4 @@
 // Rule books: what they are, and the two that the method needs.
 pub mod book;
-pub mod examples;
 pub mod resolution;
 pub mod trial;

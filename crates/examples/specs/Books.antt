@@ -1,4 +1,4 @@
--- What the books come to on a few lines.
+-- What the rule books come to on a few lines.
 use mathlib.Core.Path.{_≡_}
 use mathlib.Core.List.{[], _∷_}
 use Prim.Native.Nat.{ℕ}
@@ -18,6 +18,7 @@ set p m = record { plus = p; minus = m }
 abbrev pub Emptied : Type 0
 Emptied = late-of 1 (Initial (set 2 0) ∷ Global (set 0 2) none ∷ []) ≡ gives (initially none) (here ∷ here ∷ [])
 
+-- an initial line does not meet a global line with next
 abbrev pub Not-next : Type 0
 Not-next = late-of 1 (Initial (set 2 0) ∷ Global (set 0 2) (set 2 0) ∷ []) ≡ refuses InitialMeetsNext
 
@@ -37,5 +38,5 @@ Tried = late-trial (record { now = set 2 0; next = none }) (Global (set 1 0) non
 abbrev pub Too-much : Type 0
 Too-much = late-trial (record { now = set 1 0; next = none }) (Global (set 3 0) none ∷ []) ≡ refuses Counterexample
 
-abbrev pub Examples : Type 0
-Examples = Emptied × Not-next × Moved × Unread × Tried × Too-much
+abbrev pub On-books : Type 0
+On-books = Emptied × Not-next × Moved × Unread × Tried × Too-much

@@ -1,0 +1,5 @@
+mod Truth
+mod Giving
+mod Showing
+mod Timing
+mod Refuting

@@ -1,0 +1,5 @@
+pub mod Books
+pub mod Giving
+pub mod Showing
+pub mod Refuting
+pub mod Examples
