@@ -2,18 +2,32 @@
 use mathlib.Core.Path.{_≡_, refl, subst}
 use mathlib.Core.Bool.{Bool, true, _&&_}
 use mathlib.Core.Logic.{inl}
-use Prim.Native.Nat.{ℕ, _<_, _≤_}
+use Prim.Native.Nat.{ℕ, zero, suc, _<_, _≤_}
+use native.Mathlib.Nat.{mod-eq-of-lt}
 use native.Mathlib.Omega.{arith}
+use lib.ListN.{replicate}
 use Rattle.std.specs.declared.option.Option.the-variants.{None}
 use Rattle.std.proofs.shelf.Tests.{and-from}
 use Rattle.clause.specs.Meaning.{Broken, Unbroken, Keeps, none, just, _∪_}
 use Rattle.clause.specs.declared.syntax.Clause.{Clause}
 use Rattle.clause.specs.declared.syntax.Clause.the-variants.{Global}
 use Rattle.clause.proofs.Truths.{untrue-none, untrue-left, untrue-right}
+use Rattle.runs.specs.Loops.{Common}
 use Rattle.runs.proofs.Judging.{first-of}
 use Rattle.protocol.specs.State.{clause-at}
-use Rattle.examples.specs.Showing.{three-tasks, apart, of-given, Too-long-by-one}
+use Rattle.examples.specs.Showing.{three-tasks, apart, of-given, Has-lengths, Too-long-by-one}
 use Rattle.examples.proofs.Truth.{minus, untrue-minus, minus-untrue, untrue-both, none-told}
+
+no-tasks : (n : ℕ) → Common (replicate n None) 10
+no-tasks zero = tt
+no-tasks (suc n) = (tt, no-tasks n)
+
+pub has-lengths : Has-lengths
+has-lengths = record {
+  tasks = refl;
+  lead = refl;
+  turn = (omega arith, omega arith, (refl, (refl, (refl, no-tasks 17))), λ n h l d. omega (arith, mod-eq-of-lt l, d .0));
+}
 
 -- not both letters at one moment
 abbrev not-both : ℕ → ℕ → Clause

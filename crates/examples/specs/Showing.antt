@@ -13,7 +13,9 @@ use Rattle.clause.specs.declared.refusal.Refusal.the-variants.{RunBreaks}
 use Rattle.clause.specs.Meaning.{none}
 use Rattle.clause.specs.Refusals.{fault-at}
 use Rattle.runs.specs.declared.task.Task.{Task}
+use Rattle.runs.specs.declared.timetable.Timetable.{Timetable}
 use Rattle.runs.specs.declared.world.World.{World}
+use Rattle.runs.specs.Assigns.{Made}
 use Rattle.runs.specs.Source.{Source}
 use Rattle.runs.specs.Table.{means as table-means}
 use Rattle.runs.specs.Tasks.{covers, Covered}
@@ -96,8 +98,15 @@ tasks-covered (suc zero) = refl
 tasks-covered (suc (suc zero)) = refl
 tasks-covered (suc (suc (suc k))) = untold 17 k
 
+abbrev pub timetable : Timetable
+timetable = record { tasks = tasks; lead = 8; turn = 10; turns = omega arith; small = omega arith; covered = tasks-covered }
+
 abbrev pub three-tasks : Source
-three-tasks = timetable-means (record { tasks = tasks; lead = 8; turn = 10; turns = omega arith; small = omega arith; covered = tasks-covered })
+three-tasks = timetable-means timetable
+
+-- a lead-in of 8 and a loop of 10 are what these tasks have
+abbrev pub Has-lengths : Type 0
+Has-lengths = Made tasks timetable
 
 -- no two of the letters 0, 1 and 2 at one moment
 abbrev pub apart : List Clause
@@ -108,4 +117,4 @@ abbrev pub Too-long-by-one : Type 0
 Too-long-by-one = On apart three-tasks (refused (fault-at RunBreaks 2 10))
 
 abbrev pub On-runs : Type 0
-On-runs = Meets-start × Ends-free × Comes-again × Gone-for-good × Too-long-by-one
+On-runs = Meets-start × Ends-free × Comes-again × Gone-for-good × Has-lengths × Too-long-by-one

@@ -1,5 +1,4 @@
 // A rule book written from outside the library, and a case that is played through with it.
-ghost use mathlib.Core.Path.{_≡_};
 ghost use Rattle.weakening.specs.Ends.{Ends};
 
 mod weaken;

@@ -5,7 +5,7 @@ use Rattle.rules.specs.Deciding.{some-to}
 use Rattle.examples.specs.Books.{On-books}
 use Rattle.examples.proofs.Giving.{on-giving}
 use Rattle.examples.proofs.Showing.{meets-start, ends-free, comes-again, gone-for-good}
-use Rattle.examples.proofs.Timing.{too-long-by-one}
+use Rattle.examples.proofs.Timing.{has-lengths, too-long-by-one}
 use Rattle.examples.proofs.Refuting.{reaches-contradiction}
 use Rattle.examples.proofs.examples_stand.Needs as need
 
@@ -14,4 +14,4 @@ unfolding bit how-many some-to
 on-books = (refl, refl, refl, refl, refl, refl)
 
 pub returns : need.returns
-returns c = (on-books, on-giving, (meets-start, ends-free, comes-again, gone-for-good, too-long-by-one), reaches-contradiction)
+returns c = (on-books, on-giving, (meets-start, ends-free, comes-again, gone-for-good, has-lengths, too-long-by-one), reaches-contradiction)
