@@ -26,12 +26,13 @@ use Rattle.case.specs.View.{front, view-intake, view-sealed}
 use Rattle.case.specs.Calling.{answer-of, Given-too, Called, Sealed-as}
 use Rattle.case.proofs.Growing.{front-length, new-lines, blank-after, set-written, leads, refused-call}
 
-all-same : {X : Type 0} (P : X → Type 0) (n : ℕ) (x : X) → P x → All P (replicate n x)
-all-same P zero x p = tt
-all-same P (suc n) x p = (p, all-same P n x p)
+all-same : {X : Type 0} (P : X → Type 0) (n : ℕ) (x : X) (ys : List X) → P x → All P ys → All P (replicate n x ++ ys)
+all-same P zero x ys p q = q
+all-same P (suc n) x ys p q = (p, all-same P n x ys p q)
 
-pub blanked-from : (n : ℕ) (t t′ : List Line) → n ≤ length t → Blanked n t t′ → Blank-from n t′
-blanked-from n t t′ h b = subst (All Is-blank) (sym (new-lines n (take n t) (replicate (length t - n) (b .place)) t′ (length-take-le n t h) (b .table-is))) (all-same Is-blank (length t - n) (b .place) (b .is-blank))
+-- where the places from e on were blank, those from n on are now
+pub blanked-from : (n e : ℕ) (t t′ : List Line) → n ≤ length t → Blanked n e t t′ → Blank-from e t → Blank-from n t′
+blanked-from n e t t′ h b z = subst (All Is-blank) (sym (new-lines n (take n t) (replicate (e - n) (b .place) ++ drop e t) t′ (length-take-le n t h) (b .table-is))) (all-same Is-blank (e - n) (b .place) (drop e t) (b .is-blank) z)
 
 module _ (s : Intake) (t : List Line) (long : length t ≡ 1000) where
   given-is : model.last (view-intake s t) ≡ s .given

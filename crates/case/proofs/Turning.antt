@@ -140,7 +140,7 @@ closed-ok o t t′ ls ns gs s n long same el eg ck es eg′ en wr =
     )
 
 -- abandon
-pub abandoned-ok : (o : OpenLoop) (t t′ : List Line) (s : Sealed) (n : ℕ) → length t ≡ 1000 → length t′ ≡ length t → s .body .last ≡ o .first - 1 → s .body .given ≡ o .body .given → n ≡ o .first - 1 → Blanked (o .first - 1) t t′
+pub abandoned-ok : (o : OpenLoop) (t t′ : List Line) (s : Sealed) (n : ℕ) → length t ≡ 1000 → length t′ ≡ length t → s .body .last ≡ o .first - 1 → s .body .given ≡ o .body .given → n ≡ o .first - 1 → Blanked (o .first - 1) (o .body .last) t t′
     → Turned view-loop view-sealed abandon (Ok (s, n)) o t t′
 abandoned-ok o t t′ s n long same es eg en b =
     let c = o .first - 1 in
@@ -151,4 +151,4 @@ abandoned-ok o t t′ s n long same es eg en b =
     ap (λ j. front j t′) es ∙ ap lines-of tk ∙ sym (take-map line-of c (take (o .body .last) t) ∙ ap lines-of (take-take c (o .body .last) t low)) in
     let q : Answered (view-loop o t) abandon (number n) (view-sealed s t′) = (tt, (ap number en, λ i. record { stage = model.sealed; given = eg i; lines = ls i })) in
     turned-ok view-loop view-sealed abandon o t s n t′ long tt q
-    (λ _. subst (λ k. Blank-from k t′) (sym (front-length (s .body .last) t′ (omega (arith, s .body .fits)) ∙ es)) (blanked-from c t t′ h b))
+    (λ z. subst (λ k. Blank-from k t′) (sym (front-length (s .body .last) t′ (omega (arith, s .body .fits)) ∙ es)) (blanked-from c (o .body .last) t t′ h b (subst (λ k. Blank-from k t) (front-length (o .body .last) t (omega (arith, o .body .fits))) z)))

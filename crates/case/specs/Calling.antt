@@ -68,7 +68,7 @@ Adds-draft d r b t b′ t′ = (st : model.Stage) (c : Call) → Adding c → Dr
 
 -- a case just made: its table blank, and no call yet
 abbrev pub Begun : Result Intake Fault → List Line → List Line → Type 0
-Begun (Ok s) t t′ = (length t ≡ 1000) × (view-intake s t′ ≡ model.fresh) × Blanked 0 t t′ × Led [] (view-intake s t′) t′
+Begun (Ok s) t t′ = (length t ≡ 1000) × (view-intake s t′ ≡ model.fresh) × Blanked 0 1000 t t′ × Led [] (view-intake s t′) t′
 Begun (Err f) t t′ = (length t ≡ 1000 → ⊥) × (f ≡ plain WrongSize) × (t′ ≡ t)
 
 -- a given line was put after the last one, or there was no room

@@ -66,9 +66,9 @@ Opened c r s t t′ = Turned view-sealed view-loop c r s t t′ × Placed (turne
 abbrev pub Closed : Call → Result (Sealed × ℕ) (OpenLoop × Fault) → OpenLoop → List Line → List Line → Type 0
 Closed c r o t t′ = Turned view-loop view-sealed c r o t t′ × Placed (turned-answer view-loop view-sealed r) (view-loop o t) t (turned-view view-loop view-sealed r t′) t′
 
--- the table after an abandon: blank from the loop's first line on
+-- the table after an abandon: the places of the loop's lines are blank
 abbrev pub Taken-back : Result (Sealed × ℕ) (OpenLoop × Fault) → OpenLoop → List Line → List Line → Type 0
-Taken-back (Ok p) o t t′ = Blanked (o .first - 1) t t′
+Taken-back (Ok p) o t t′ = Blanked (o .first - 1) (o .body .last) t t′
 Taken-back (Err p) o t t′ = t′ ≡ t
 
 abbrev pub Abandoned : Result (Sealed × ℕ) (OpenLoop × Fault) → OpenLoop → List Line → List Line → Type 0

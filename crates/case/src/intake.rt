@@ -16,7 +16,7 @@ use clause::refusal::Fault;
 use clause::refusal::Refusal;
 use clause::syntax::Clause;
 use lines::line::Line;
-use lines::writes::blank_from;
+use lines::writes::blank_between;
 
 fn over_given(clause: Clause) -> bool
     ensures { λ r. ⌜ Tells r (Over-given clause) ⌝ }
@@ -39,7 +39,7 @@ impl Intake {
         if table.len() != 1000 {
             return Err(Fault::of(Refusal::WrongSize));
         }
-        blank_from(table, 0);
+        blank_between(table, 0, 1000);
         Ok(Intake { given: 0 })
     }
 

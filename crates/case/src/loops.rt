@@ -21,7 +21,7 @@ use lines::covers::unfit;
 use lines::line::Line;
 use lines::named::check_named;
 use lines::writes::assume;
-use lines::writes::blank_from;
+use lines::writes::blank_between;
 use lines::writes::conclude;
 use rules::book::RuleBook;
 
@@ -238,7 +238,7 @@ impl OpenLoop {
             return Err((self, Fault::of(Refusal::WrongSize)));
         }
         let last = self.first - 1;
-        blank_from(table, last);
+        blank_between(table, last, self.body.last);
         let sealed = self.taken_back();
         Ok((sealed, last))
     }

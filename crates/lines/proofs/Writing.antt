@@ -105,6 +105,3 @@ blanked-more t u n x i h k w =
     ∙ set-mid t [] (replicate (i - n) x) n x x (omega arith)
     ∙ ap (λ j. take n t ++ ((replicate (i - n) x ++ (x ∷ [])) ++ drop j t)) e′
     ∙ ap (λ zs. take n t ++ (zs ++ drop (i + 1) t)) (push-replicate (i - n) x ∙ ap (λ j. replicate j x) m)
-
-pub blanked-all : {X : Type 0} (t u : List X) (n : ℕ) (x : X) (i : ℕ) → i ≡ length t → Blanked-to t n x i u → u ≡ take n t ++ replicate (length t - n) x
-blanked-all t u n x i e w = w ∙ ap (λ zs. take n t ++ (replicate (i - n) x ++ zs)) (drop-all i t (omega arith)) ∙ ap (λ zs. take n t ++ zs) (append-nil (replicate (i - n) x)) ∙ ap (λ j. take n t ++ replicate (j - n) x) e

@@ -31,11 +31,11 @@ pub record Written (n : ℕ) (t : List Line) (ms : List model.Line) (t′ : List
   pub tidy : All Tidy places
   pub table-is : t′ ≡ take n t ++ (places ++ drop (n + length places) t)
 
--- the places from n on are blank, all else is as it was
-pub record Blanked (n : ℕ) (t t′ : List Line) : Type 0 where
+-- the places from n up to e are blank, all else is as it was
+pub record Blanked (n e : ℕ) (t t′ : List Line) : Type 0 where
   pub place : Line
   pub is-blank : Is-blank place
-  pub table-is : t′ ≡ take n t ++ replicate (length t - n) place
+  pub table-is : t′ ≡ take n t ++ (replicate (e - n) place ++ drop e t)
 
 -- the places from n on are blank
 abbrev pub Blank-from : ℕ → List Line → Type 0

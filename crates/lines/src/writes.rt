@@ -36,12 +36,12 @@ pub fn conclude(table: &mut [Line], last: u16, l: Literal, covers: &[u16], guard
     }
 }
 
-// Blanks the places from `from` on.
-pub fn blank_from(table: &mut [Line], from: u16)
-    ensures { λ _. ⌜ (from ≤ length (now (table .entry)) → Blanked from (now (table .entry)) (now (table .exit))) ⌝ }
+// Blanks the places from `from` up to `end`.
+pub fn blank_between(table: &mut [Line], from: u16, end: u16)
+    ensures { λ _. ⌜ (from ≤ end → end ≤ length (now (table .entry)) → Blanked from end (now (table .entry)) (now (table .exit))) ⌝ }
 {
     let blank = Line::blank();
-    for i in from as usize..table.len() {
+    for i in from as usize..table.len().min(end as usize) {
         table[i] = blank;
     }
 }

@@ -12,5 +12,5 @@ returns-then-table-ne1000 c = (turned-wrong view-loop view-sealed abandon (c .ar
 pub returns : need.returns
 returns c =
     let o = c .args .self in
-    let b = c .blank-from .ensures (omega (arith, o .placed, o .body .fits)) in
-    (abandoned-ok o (c .args .table .now) _ (c .taken-back-sealed .result) _ (omega arith) (c .blank-from .kept .table) (c .taken-back-sealed .ensures .last) (c .taken-back-sealed .ensures .given) refl b, b)
+    let b = c .blank-between .ensures (omega (arith, o .placed)) (omega (arith, o .body .fits)) in
+    (abandoned-ok o (c .args .table .now) _ (c .taken-back-sealed .result) _ (omega arith) (c .blank-between .kept .table) (c .taken-back-sealed .ensures .last) (c .taken-back-sealed .ensures .given) refl b, b)

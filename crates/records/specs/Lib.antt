@@ -1,0 +1,4 @@
+pub mod Fields
+pub mod Guards
+pub mod Records
+pub mod RunRecords
