@@ -1,4 +1,6 @@
 // A case over a lent table of 1,000 places, and the calls on it.
+#![tactic(auto)]
+
 mod body;
 pub mod intake;
 pub mod loop_numbers;

@@ -1,4 +1,6 @@
 // Judges a case text: casecheck [CASE], by default case.txt.
+#![tactic(auto)]
+
 use lines::line::Line;
 use programs::endings::{Ended, conclude};
 use reports::files::read_text;

@@ -1,4 +1,6 @@
 // Literals, sets of literals and clauses over time, and the faults of everything above them.
+#![tactic(auto)]
+
 pub mod faults;
 pub mod refusal;
 pub mod sets;

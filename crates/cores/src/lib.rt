@@ -1,4 +1,6 @@
 // The core of a line: the given lines that it reaches.
+#![tactic(auto)]
+
 ghost use Rattle.std.specs.Prelude.{◌≡◌, length};
 ghost use Rattle.cores.specs.Cored.{FitsRow, Cored};
 

@@ -1,4 +1,6 @@
 // What the definitions come to on worked examples.
+#![tactic(auto)]
+
 ghost use Rattle.examples.specs.Examples.{Examples};
 
 // Every worked example comes out as it is told.

@@ -1,4 +1,6 @@
 // Texts cut into lines and fields, and what a field says where it is in its form.
+#![tactic(auto)]
+
 pub mod cuts;
 pub mod fields;
 pub mod lists;

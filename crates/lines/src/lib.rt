@@ -1,4 +1,6 @@
 // The places of a case's table, and tests of the lines that a call names.
+#![tactic(auto)]
+
 pub mod covers;
 pub mod line;
 pub mod named;

@@ -1,4 +1,6 @@
 // Three tasks on a pitch processor: a timetable that needs eleven milliseconds of every ten, one that fits, and a derivation.
+#![tactic(auto)]
+
 use clause::refusal::Fault;
 use lines::line::Line;
 use std::io;

@@ -1,2 +1,4 @@
 // What the programs share: how they end.
+#![tactic(auto)]
+
 pub mod endings;

@@ -1,2 +1,4 @@
 // What the programs say about a fault.
+#![tactic(auto)]
+
 pub mod sentences;

@@ -1,4 +1,6 @@
 // The records of a case text and of a run text, each read from one line.
+#![tactic(auto)]
+
 pub mod case_lines;
 pub mod fields;
 pub mod guards;

@@ -1,4 +1,6 @@
 // What the programs read and print.
+#![tactic(auto)]
+
 pub mod answers;
 pub mod files;
 pub mod lines;

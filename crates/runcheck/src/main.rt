@@ -1,4 +1,6 @@
 // Judges a run text against a case text: runcheck [CASE [RUN]], by default case.txt and run.txt.
+#![tactic(auto)]
+
 use lines::line::Line;
 use programs::endings::{Ended, conclude};
 use reports::files::read_text;

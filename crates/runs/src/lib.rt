@@ -1,4 +1,6 @@
 // Runs without end, told by a lead-in and a loop: the interface of a run source, two sources, and where a run first breaks a clause.
+#![tactic(auto)]
+
 pub mod assign;
 pub mod breaks;
 pub mod changes;

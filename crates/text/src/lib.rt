@@ -1,4 +1,6 @@
 // Case texts: each line a record, each record a call on a case.
+#![tactic(auto)]
+
 pub mod cases;
 pub mod ends;
 pub mod lists;

@@ -1,4 +1,6 @@
 // Judges every stored case text and run text, and prints a line for each.
+#![tactic(auto)]
+
 use lines::line::Line;
 use reports::files::read_text;
 use reports::lines::{print_fault, print_verdict};

@@ -1,4 +1,6 @@
 // A rule book written from outside the library, and a case that is played through with it.
+#![tactic(auto)]
+
 ghost use Rattle.weakening.specs.Ends.{Ends};
 
 mod weaken;

@@ -1,4 +1,4 @@
-use Rattle.std.proofs.Common.{not, eqb, ltb, arith}
+use Rattle.std.proofs.Common.{arith}
 use Rattle.std.proofs.lemmas.Bool.{eqb-true, eqb-false, ltb-true, not-true, not-false}
 use Rattle.clause.proofs.Masks.{shifted_some, shifted_none, in_below}
 use Rattle.clause.proofs.Telling.{tells}

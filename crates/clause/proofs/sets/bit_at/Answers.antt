@@ -1,4 +1,4 @@
-use Rattle.std.proofs.Common.{◌≡◌, ◌≤◌, false, sym, refl, ◌∙◌, arith}
+use Rattle.std.proofs.Common.{◌≤◌, sym, refl, ◌∙◌, arith}
 use Rattle.std.proofs.lemmas.Bool.{le-ltb, ne_eqb}
 use Rattle.clause.specs.Bit.{bit, In}
 use Rattle.clause.proofs.Masks.{in_below}

@@ -1,5 +1,4 @@
 use Rattle.std.proofs.Common.{arith}
-use lib.Bits.{bit_and}
 use Rattle.std.proofs.lemmas.Bool.{eqb-true, eqb-false}
 use Rattle.clause.proofs.Masks.{within_from, within_to}
 use Rattle.clause.proofs.Telling.{tells}
