@@ -118,8 +118,10 @@ def turn_rt(text, table):
     own = dict(table)
     for m in re.finditer(r"\bghost use ([^;{]*)\.\{([^}]*)\};", text):
         for item in m[2].split(","):
-            name = item.strip()
-            if " as " not in name and name in table and table[name] in taken:
+            name, _, alias = item.strip().partition(" as ")
+            if "-" in alias:
+                own[alias] = new(alias)
+            elif not alias and name in table and table[name] in taken:
                 own[name] = "the_" + table[name]
     for a, b in spans:
         out.append(text[at:a])

@@ -125,7 +125,7 @@ impl OpenLoop {
         cites: &[u16],
         evidence: B::Evidence,
     ) -> Result<u16, Fault>
-        ensures { Called view_loop (the_infer (meaning book.now evidence) cites.now) (answer_of result) self.old table.old self.new table.new }
+        ensures { Called view_loop (the_infer (B.meaning book.now evidence) cites.now) (answer_of result) self.old table.old self.new table.new }
     {
         if table.len() != 1000 {
             return Err(Fault::of(Refusal::WrongSize));

@@ -68,7 +68,7 @@ impl Sealed {
 
     // Accepts a run that keeps every given line over endless time, and answers its lead-in and its loop.
     pub fn show<R: RunSource>(&self, table: &[Line], source: &R) -> Result<(u16, u16), Fault>
-        ensures { Shown (meaning source.now) result self.now table.now }
+        ensures { Shown (R.meaning source.now) result self.now table.now }
     {
         if table.len() != 1000 {
             return Err(Fault::of(Refusal::WrongSize));

@@ -39,7 +39,7 @@ pub fn inferred<B: RuleBook>(
     cites: &[u16],
     evidence: B::Evidence,
 ) -> Result<Line, Fault>
-    ensures { StageDraft first lines.now (the_infer (meaning book.now evidence) cites.now) result }
+    ensures { StageDraft first lines.now (the_infer (B.meaning book.now evidence) cites.now) result }
 {
     if let Some(refusal) = book.early(evidence, cites.len()) {
         return Err(Fault::of(refusal));

@@ -31,7 +31,7 @@ pub fn asks(clause: Clause) -> u64
 }
 
 fn end<R: RunSource>(source: &R) -> u16
-    ensures { result ≡ end_of (meaning source.now) }
+    ensures { result ≡ end_of (R.meaning source.now) }
 {
     source.lead_in() + source.loop_length()
 }
@@ -39,8 +39,8 @@ fn end<R: RunSource>(source: &R) -> u16
 // The letter k at a moment of the lead-in or the loop.
 fn truth<R: RunSource>(source: &R, k: u8, i: u16) -> bool
     requires plain { k < 20 }
-    requires early { i < end_of (meaning source.now) }
-    ensures { result ≡ (meaning source.now).run i k }
+    requires early { i < end_of (R.meaning source.now) }
+    ensures { result ≡ (R.meaning source.now).run i k }
 {
     match source.letter(k, i) {
         Ok(b) => b,
@@ -52,7 +52,7 @@ fn truth<R: RunSource>(source: &R, k: u8, i: u16) -> bool
 fn note_letter<R: RunSource>(source: &R, k: u8, worlds: &mut [u64])
     requires plain { k < 20 }
     requires room { length worlds.old ≡ 4096 }
-    ensures { (i : ℕ) → i < end_of (meaning source.now) → slice_index worlds.new i ≡ noted ((meaning source.now).run i k) k (slice_index worlds.old i) }
+    ensures { (i : ℕ) → i < end_of (R.meaning source.now) → slice_index worlds.new i ≡ noted ((R.meaning source.now).run i k) k (slice_index worlds.old i) }
 {
     let e = end(source);
     let m = mask(k);
@@ -67,7 +67,7 @@ fn note_letter<R: RunSource>(source: &R, k: u8, worlds: &mut [u64])
 fn note_plain<R: RunSource>(source: &R, asked: u64, worlds: &mut [u64])
     requires room { length worlds.old ≡ 4096 }
     requires blank { (i : ℕ) → slice_index worlds.old i ≡ 0 }
-    ensures { (i : ℕ) → i < end_of (meaning source.now) → slice_index worlds.new i ≡ seen (meaning source.now).run asked i 20 }
+    ensures { (i : ℕ) → i < end_of (R.meaning source.now) → slice_index worlds.new i ≡ seen (R.meaning source.now).run asked i 20 }
 {
     for k in 0..20u8 {
         if bit_at(asked, k) {
@@ -80,7 +80,7 @@ fn note_plain<R: RunSource>(source: &R, asked: u64, worlds: &mut [u64])
 fn waited(k: u8) -> Literal
     requires low { 20 ≤ k }
     requires high { k < 60 }
-    ensures exact { result ≡ waited-for k }
+    ensures exact { result ≡ waited_for k }
     ensures plain { result.letter < 20 }
 {
     if k < 40 {
@@ -150,7 +150,7 @@ fn note_all_waiting(worlds: &mut [u64], lead: u16, end: u16, asked: u64)
 impl Moments {
     // The worlds of a source, read for the letters asked for.
     pub fn read<R: RunSource>(source: &R, asked: u64) -> Moments
-        ensures { Read (meaning source.now) asked result }
+        ensures { Read (R.meaning source.now) asked result }
     {
         let mut worlds = [0u64; 4096];
         let lead = source.lead_in();

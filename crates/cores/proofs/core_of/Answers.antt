@@ -6,6 +6,6 @@ use Rattle.cores.proofs.core_of.Goals as goal
 
 pub returns : goal.returns
 returns c = record {
-  core = λ f. (marked_to c.reached-marks.result c.args.given, core_is (lines_of c.args.lines.now) c.args.n c.args.given c.reached-marks.result c.reached-marks.ensures.exact, c.write-marked.ensures.row, c.write-marked.ensures.count);
+  core = λ f. (marked_to c.reached-marks.result c.args.given, core_is (lines_of c.args.lines.now) c.args.n c.args.given c.reached-marks.result c.reached-marks.ensures.exact, c.write_marked.ensures.row, c.write_marked.ensures.count);
   none = λ n. absurd (n (omega arith, omega arith, omega arith, omega arith));
 }

@@ -15,7 +15,7 @@ pub loop-n-preserved : goal.loop-n-preserved
 loop-n-preserved c x asked rd al =
     let t = c.args.lines.now in let i = c.loop-n.n in let y = c.index-lines-n.result in
     kept_more x.run t i y c.loop-n-test.true c.index-lines-n.is (c.loop-n.invariant x asked rd al)
-    (c.in-default.ensures.first x asked rd y.narrow (letters_asked t i y asked c.loop-n-test.true c.index-lines-n.is al))
+    (c.in_default.ensures.first x asked rd y.narrow (letters_asked t i y asked c.loop-n-test.true c.index-lines-n.is al))
 
 pub returns : goal.returns
 returns c x asked rd al m a b = c.loop-n.invariant x asked rd al m a (omega (arith, all_lines c.args.lines.now))

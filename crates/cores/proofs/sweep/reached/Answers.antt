@@ -21,10 +21,10 @@ loop-k-preserved c =
     let P : List Bool → Type 0 = λ ms. (length ms ≡ 1001) × (k - 1 ≤ n) × Swept (lines_of t) n (k - 1) ms in
     elim c.if-marks-k.branch [
       | then-marks-k w ↦ subst P (sym w.marks-is) (
-        omega (arith, w.mark-below.auto.marks, q.0),
+        omega (arith, w.mark_below.auto.marks, q.0),
         omega arith,
-        sweep_mark (lines_of t) n k w.cited-lines.result.now c.loop-k.marks _ h w.if-marks-k.true
-            (w.cited-lines.ensures ∙ ap (λ (x : Line). x.cites) (line_here t k (k - 1) w.index-lines-k.result refl (omega arith) w.index-lines-k.is)) w.mark-below.ensures q.2,
+        sweep_mark (lines_of t) n k w.cited_lines.result.now c.loop-k.marks _ h w.if-marks-k.true
+            (w.cited_lines.ensures ∙ ap (λ (x : Line). x.cites) (line_here t k (k - 1) w.index-lines-k.result refl (omega arith) w.index-lines-k.is)) w.mark_below.ensures q.2,
       )
       | else-marks-k w ↦ subst P (sym w.marks-is) (q.0, omega arith, sweep_skip (lines_of t) n k c.loop-k.marks h w.if-marks-k.false q.2)
     ]

@@ -6,5 +6,5 @@ use Rattle.forms.proofs.lists.listed.Goals as goal
 pub loop-n-init : goal.loop-n-init
 loop-n-init c = (refl, go_start (split 32 c.args.field.now))
 
-pub returns-in-default : goal.returns-in-default
-returns-in-default c = search (rules, go_none)
+pub returns-in_default : goal.returns-in_default
+returns-in_default c = search (rules, go_none)

@@ -9,5 +9,5 @@ returns-in-empty c = search (rules, alone_end, ltb-true)
 pub returns-in-32 : goal.returns-in-32
 returns-in-32 c = search (rules, alone_space, rest_shorter)
 
-pub returns-in-default : goal.returns-in-default
-returns-in-default c = search (rules, alone_none)
+pub returns-in_default : goal.returns-in_default
+returns-in_default c = search (rules, alone_none)

@@ -1,7 +1,7 @@
 use Rattle.std.proofs.Common.{◌<◌, ◌⊎◌, length, get_or, inl, inr, rules}
 use Rattle.std.proofs.lemmas.Bool.{ltb-true}
 use Rattle.forms.proofs.Leading.{number_zero, number_first, number_bad, number_end, leads_by, rest_within}
-use Rattle.forms.proofs.numbers.lead_number.Goals.{in-default-via-then-text-lt1, in-default-via-else-text-lt1+in-default·+then-text-lt48, in-default-via-else-text-lt1+in-default·+else-text-lt48+else-text-lt58}
+use Rattle.forms.proofs.numbers.lead_number.Goals.{in_default-via-then-text-lt1, in_default-via-else-text-lt1+in_default+then-text-lt48, in_default-via-else-text-lt1+in_default+else-text-lt48+else-text-lt58}
 use Rattle.forms.proofs.numbers.lead_number.Goals as goal
 
 pub returns-in-48 : goal.returns-in-48
@@ -14,11 +14,11 @@ returns-in-49-to-57 c =
     let xs = c.args.text.now in let some : 0 < length xs = search rules in
     leads_by (λ s. s.now) _ _ _ _ c.digits.result (number_first xs some (search rules) (search rules)) (rest_within xs some) c.digits.ensures
 
-pub returns-in-default : goal.returns-in-default
-returns-in-default c =
+pub returns-in_default : goal.returns-in_default
+returns-in_default c =
     let xs = c.args.text.now in
-    elim c.in-default.branch [
-      | in-default-via-then-text-lt1 w ↦ search (rules, number_end, ltb-true)
-      | in-default-via-else-text-lt1+in-default·+then-text-lt48 w ↦ let h : get_or xs 0 0 < 48 = search (rules, ltb-true) in number_bad xs (search rules) (inl h)
-      | in-default-via-else-text-lt1+in-default·+else-text-lt48+else-text-lt58 w ↦ let h : 57 < get_or xs 0 0 = search rules in number_bad xs (search rules) (inr h)
+    elim c.in_default.branch [
+      | in_default-via-then-text-lt1 w ↦ search (rules, number_end, ltb-true)
+      | in_default-via-else-text-lt1+in_default+then-text-lt48 w ↦ let h : get_or xs 0 0 < 48 = search (rules, ltb-true) in number_bad xs (search rules) (inl h)
+      | in_default-via-else-text-lt1+in_default+else-text-lt48+else-text-lt58 w ↦ let h : 57 < get_or xs 0 0 = search rules in number_bad xs (search rules) (inr h)
     ]

@@ -6,15 +6,15 @@ use Rattle.lines.specs.Named.{at_stage}
 use Rattle.lines.proofs.Forcing.{outside_first, asleep_first, none_named}
 use Rattle.lines.proofs.named.check_named.Goals as goal
 
-pub returns-then-some-outside : goal.returns-then-some-outside
-returns-then-some-outside c st g from =
+pub returns-then-some_outside : goal.returns-then-some_outside
+returns-then-some_outside c st g from =
     subst (λ (f : Fault). First (named (at_stage st g (lines_of c.args.lines.now)) c.args.ns.now) f) (sym c.of.ensures)
-    (outside_first c.args.lines.now c.args.first st g from c.args.ns.now c.if-some-outside.ensures)
+    (outside_first c.args.lines.now c.args.first st g from c.args.ns.now c.if-some_outside.ensures)
 
-pub returns-then-some-asleep : goal.returns-then-some-asleep
-returns-then-some-asleep c st g from =
-    subst (λ (f : Fault). First (named (at_stage st g (lines_of c.args.lines.now)) c.args.ns.now) f) (sym c.of-then-some-asleep.ensures)
-    (asleep_first c.args.lines.now c.args.first st g from c.args.ns.now c.if-some-outside.ensures c.if-some-asleep.ensures)
+pub returns-then-some_asleep : goal.returns-then-some_asleep
+returns-then-some_asleep c st g from =
+    subst (λ (f : Fault). First (named (at_stage st g (lines_of c.args.lines.now)) c.args.ns.now) f) (sym c.of-then-some_asleep.ensures)
+    (asleep_first c.args.lines.now c.args.first st g from c.args.ns.now c.if-some_outside.ensures c.if-some_asleep.ensures)
 
 pub returns : goal.returns
-returns c st g from = none_named c.args.lines.now c.args.first st g from c.args.ns.now c.if-some-outside.ensures c.if-some-asleep.ensures
+returns c st g from = none_named c.args.lines.now c.args.first st g from c.args.ns.now c.if-some_outside.ensures c.if-some_asleep.ensures

@@ -16,7 +16,7 @@ loop-i-preserved c =
       | then-i-lt8 w ↦ (
         ap length w.out-is ∙ length-set c.loop-i.out i _ ∙ c.loop-i.invariant.0,
         λ h. ap (take (i + 1)) w.out-is ∙ front_more (clause_at ls) ns c.loop-i.out i _ c.loop-i-test.true (let l = w.if-i-lt8.true in omega (arith, c.loop-i.invariant.0))
-            (ap (λ (x : Line). x.clause) w.line-at-line.ensures) (c.loop-i.invariant.1 h),
+            (ap (λ (x : Line). x.clause) w.line_at-line.ensures) (c.loop-i.invariant.1 h),
       )
       | else-i-lt8 w ↦ (ap length w.out-is ∙ c.loop-i.invariant.0, λ h. absurd (let l = w.if-i-lt8.false in omega arith))
     ]

@@ -10,8 +10,8 @@ loop-line-preserved c =
     let cs = c.args.cited.now in
     let i = c.loop-line.line-index in
     let l = c.loop-line in (
-      ap (λ n. now_letters (bit_or l.a n) (drop (i + 1) cs)) (c.letters-a-in-loop-line.ensures ∙ ap letters_of c.now-set.ensures) ∙ sym (now_more l.a cs i _ c.loop-line-test.true) ∙ l.invariant.0,
-      ap (λ n. next_letters (bit_or l.b n) (drop (i + 1) cs)) (c.letters-b-in-loop-line.ensures ∙ ap letters_of c.next-set.ensures) ∙ sym (next_more l.b cs i _ c.loop-line-test.true) ∙ l.invariant.1,
+      ap (λ n. now_letters (bit_or l.a n) (drop (i + 1) cs)) (c.letters-a-in-loop-line.ensures ∙ ap letters_of c.now_set.ensures) ∙ sym (now_more l.a cs i _ c.loop-line-test.true) ∙ l.invariant.0,
+      ap (λ n. next_letters (bit_or l.b n) (drop (i + 1) cs)) (c.letters-b-in-loop-line.ensures ∙ ap letters_of c.next_set.ensures) ∙ sym (next_more l.b cs i _ c.loop-line-test.true) ∙ l.invariant.1,
     )
 
 pub returns : goal.returns

@@ -15,14 +15,14 @@ Free e cs a y = (x : ℕ) → Sub x a → counter_at x y (claimed e) cs ≡ fals
 pub loop-choice-init : goal.loop-choice-init
 loop-choice-init c = done_start c.args.b _
 
-pub loop-choice-preserved-else-counter-now : goal.loop-choice-preserved-else-counter-now
-loop-choice-preserved-else-counter-now c =
+pub loop-choice-preserved-else-counter_now : goal.loop-choice-preserved-else-counter_now
+loop-choice-preserved-else-counter_now c =
     let e = c.args.claim in
     let cs = c.args.cited.now in
     let y = c.in-Some.y in
     done_more c.args.b y (Free e cs c.args.a) c.below-choice.result (subst (Done c.args.b (Free e cs c.args.a)) c.in-Some.is c.loop-choice.invariant) c.below-choice.ensures
     (λ x s. ⊎_elim
-    (λ t. absurd (c.if-counter-now.ensures (x, s, half_counters e cs x y c.of-half.result c.halves-lines.result c.of-half.ensures c.halves-lines.ensures ∙ t)))
+    (λ t. absurd (c.if-counter_now.ensures (x, s, half_counters e cs x y c.of-half.result c.halves-lines.result c.of-half.ensures c.halves-lines.ensures ∙ t)))
     (λ t. t) (cases_Bool (counter_at x y (claimed e) cs)))
 
 pub loop-choice-preserved : goal.loop-choice-preserved

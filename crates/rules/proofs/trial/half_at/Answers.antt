@@ -5,8 +5,8 @@ use Rattle.rules.proofs.trial.half_at.Goals as goal
 
 pub returns-then-i-cited : goal.returns-then-i-cited
 returns-then-i-cited c x = let y = c.args.y in
-    halved c.now-set.result c.next-set.result y x c.of.result c.of.ensures
-    ∙ (λ j. untrue_at x (c.now-set.ensures j) && untrue_at y (c.next-set.ensures j))
+    halved c.now_set.result c.next_set.result y x c.of.result c.of.ensures
+    ∙ (λ j. untrue_at x (c.now_set.ensures j) && untrue_at y (c.next_set.ensures j))
     ∙ sym (place_at x y c.args.cited.now c.args.i _ c.if-i-cited.true)
 
 pub returns-else-i-cited : goal.returns-else-i-cited

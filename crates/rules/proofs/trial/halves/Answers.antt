@@ -4,5 +4,5 @@ use Rattle.rules.proofs.trial.halves.Goals as goal
 
 pub returns : goal.returns
 returns c x =
-    (λ j. c.half-at.ensures x j || (c.half-at-2.ensures x j || (c.half-at-3.ensures x j || (c.half-at-4.ensures x j || false))))
+    (λ j. c.half_at.ensures x j || (c.half_at-2.ensures x j || (c.half_at-3.ensures x j || (c.half_at-4.ensures x j || false))))
     ∙ four x c.args.y c.args.cited.now c.requires

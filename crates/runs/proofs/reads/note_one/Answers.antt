@@ -14,4 +14,4 @@ returns c x asked el ee a q =
     let n : end_of x ≤ length ws = omega (arith, c.requires.small, c.requires.room) in
     one_more x asked c.args.k ws _ o l c.requires.low c.waited-l.ensures.exact c.waited-l.ensures.plain a n
     (subst (λ e. LastTrue (take e ws) x.lead l o) ez (subst (λ d. LastTrue (take (c.args.end - 0) ws) d l o) el t))
-    (λ i b. c.note-waiting.ensures i (omega arith)) q
+    (λ i b. c.note_waiting.ensures i (omega arith)) q

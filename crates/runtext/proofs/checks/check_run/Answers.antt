@@ -9,7 +9,7 @@ use Rattle.runtext.proofs.checks.check_run.Goals as goal
 
 pub returns-in-Ok : goal.returns-in-Ok
 returns-in-Ok c =
-    let q = c.read-case in let h = c.show-text in
+    let q = c.read_case in let h = c.show_text in
     let cs = givens (lines c.args.case_text.now) in
     let a = made_is q.result (λ (p : Sealed × Verdict). Agrees (view_sealed p.0 q.new.table) cs) c.in-Ok.accepted c.in-Ok.is q.ensures.given in
     let k = kept_text cs c.args.run_text.now c.in-Ok.accepted.0 q.new.table h.result h.ensures a in
@@ -21,7 +21,7 @@ returns-in-Ok c =
 
 pub returns-in-Err : goal.returns-in-Err
 returns-in-Err c =
-    let q = c.read-case in
+    let q = c.read_case in
     record {
       exact = both_err q.result c.in-Err.f c.args.case_text.now c.args.run_text.now c.args.table.now c.args.row.now q.new.table q.new.row c.in-Err.is q.ensures.exact;
       kept = tt;

@@ -9,11 +9,11 @@ use Rattle.runtext.proofs.runtexts.read_run_lines.Goals as goal
 pub returns-then-rest-eq0 : goal.returns-then-rest-eq0
 returns-then-rest-eq0 c =
     let l = c.loop-rest in
-    l.invariant.1 c.finish-run.result (subst (λ (ls : List (List ℕ × Bool)). RunReads l.n ls l.stage c.finish-run.result) (sym (lines_none l.rest.now c.if-rest-eq0.true)) (ends c.finish-run.ensures))
+    l.invariant.1 c.finish_run.result (subst (λ (ls : List (List ℕ × Bool)). RunReads l.n ls l.stage c.finish_run.result) (sym (lines_none l.rest.now c.if-rest-eq0.true)) (ends c.finish_run.ensures))
 
 pub returns-in-Err : goal.returns-in-Err
 returns-in-Err c =
-    let l = c.loop-rest in let q = c.take-run-line in
+    let l = c.loop-rest in let q = c.take_run_line in
     let line = c.cut.result.0.now in let later = c.in-Some.later.now in
     let e : split 10 l.rest.now ≡ line ∷ split 10 later = search rules in
     l.invariant.1 (Err c.in-Err.f) (subst (λ (ls : List (List ℕ × Bool)). RunReads l.n ls l.stage (Err c.in-Err.f)) (sym (lines_more l.rest.now line later e))
@@ -21,7 +21,7 @@ returns-in-Err c =
 
 pub loop-rest-preserved : goal.loop-rest-preserved
 loop-rest-preserved c =
-    let l = c.loop-rest in let q = c.take-run-line in
+    let l = c.loop-rest in let q = c.take_run_line in
     let line = c.cut.result.0.now in let later = c.in-Some.later.now in
     let e : split 10 l.rest.now ≡ line ∷ split 10 later = search rules in
     let m : length line + 1 + length later ≡ length l.rest.now = search rules in

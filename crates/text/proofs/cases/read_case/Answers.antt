@@ -6,7 +6,7 @@ use Rattle.text.proofs.cases.read_case.Goals as goal
 
 pub returns : goal.returns
 returns c =
-    let q = c.read-lines in
+    let q = c.read_lines in
     let text = c.args.text.now in
     let long : length c.args.table.now ≡ 1000 = search rules in
     let wide : length c.args.row.now ≡ 200 = search rules in

@@ -25,38 +25,38 @@ returns-then-rest-eq0 c =
     l.invariant.4 c.finish.result c.finish.new.table l.row (subst (λ (ls : List (List ℕ × Bool)). Comes l.n ls l.found (view l.stage l.table) l.row c.finish.result c.finish.new.table l.row)
     (sym (lines_none l.rest.now c.if-rest-eq0.true)) (c.finish.ensures l.row))
 
-pub last-line-requires : goal.last-line-requires
-last-line-requires c = let i = c.loop-rest.invariant in record { long = i.0; knows = i.2; led = i.3; small = omega (arith, i.1, c.requires.short) }
+pub last_line-requires : goal.last_line-requires
+last_line-requires c = let i = c.loop-rest.invariant in record { long = i.0; knows = i.2; led = i.3; small = omega (arith, i.1, c.requires.short) }
 
-pub returns-in-default : goal.returns-in-default
-returns-in-default c =
-    let l = c.loop-rest in let q = c.last-line in
+pub returns-in_default : goal.returns-in_default
+returns-in_default c =
+    let l = c.loop-rest in let q = c.last_line in
     let e : split 10 l.rest.now ≡ c.cut.result.0.now ∷ [] = search rules in
     let w : c.cut.result.0.now ≡ l.rest.now = search rules in
     l.invariant.4 q.result q.new.table q.new.row (subst (λ (ls : List (List ℕ × Bool)). Comes l.n ls l.found (view l.stage l.table) l.row q.result q.new.table q.new.row)
     (sym (lines_last l.rest.now c.cut.result.0.now e w c.if-rest-eq0.false)) q.ensures)
 
-pub take-line-next-requires : goal.take-line-next-requires
-take-line-next-requires c = let i = c.loop-rest.invariant in record { long = i.0; knows = i.2; led = i.3 }
+pub take_line-next-requires : goal.take_line-next-requires
+take_line-next-requires c = let i = c.loop-rest.invariant in record { long = i.0; knows = i.2; led = i.3 }
 
 pub leave-requires : goal.leave-requires
-leave-requires c = let i = c.loop-rest.invariant in let q = c.take-line-next in record { long = omega (arith, i.0, q.auto.table); led = q.ensures.onward i.3.0 i.3.1 }
+leave-requires c = let i = c.loop-rest.invariant in let q = c.take_line-next in record { long = omega (arith, i.0, q.auto.table); led = q.ensures.onward i.3.0 i.3.1 }
 
 pub returns-in-Err : goal.returns-in-Err
 returns-in-Err c =
-    let l = c.loop-rest in let q = c.take-line-next in
+    let l = c.loop-rest in let q = c.take_line-next in
     let e : split 10 l.rest.now ≡ c.cut.result.0.now ∷ split 10 c.in-Some.later.now = search rules in
     l.invariant.4 (Err c.in-Err.f) c.leave.new.table q.new.row (subst (λ (ls : List (List ℕ × Bool)). Comes l.n ls l.found (view l.stage l.table) l.row (Err c.in-Err.f) c.leave.new.table q.new.row)
     (sym (lines_more l.rest.now c.cut.result.0.now c.in-Some.later.now e))
     (stops_by l.n c.cut.result.0.now true (lines c.in-Some.later.now) l.found (view l.stage l.table) (view q.result.0 q.new.table) l.row q.new.row q.result.1 c.in-Err.f c.leave.new.table
     c.in-Err.is q.ensures.exact c.leave.ensures))
 
-pub overflow-add-n : goal.overflow-add-n
-overflow-add-n c = omega (arith, c.loop-rest.invariant.1, c.requires.short)
+pub overflow_add-n : goal.overflow_add-n
+overflow_add-n c = omega (arith, c.loop-rest.invariant.1, c.requires.short)
 
 pub loop-rest-preserved : goal.loop-rest-preserved
 loop-rest-preserved c =
-    let l = c.loop-rest in let q = c.take-line-next in
+    let l = c.loop-rest in let q = c.take_line-next in
     let line = c.cut.result.0.now in let later = c.in-Some.later.now in
     let e : split 10 l.rest.now ≡ line ∷ split 10 later = search rules in
     let m : length line + 1 + length later ≡ length l.rest.now = search rules in

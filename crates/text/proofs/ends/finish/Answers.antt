@@ -11,4 +11,4 @@ pub returns-in-Working : goal.returns-in-Working
 returns-in-Working c row = finish_working c.args.stage c.in-Working.s c.args.n c.args.at c.args.before c.verdict-in-Working.result c.args.table.now row c.in-Working.is c.requires.long c.requires.knows c.requires.led c.verdict-in-Working.ensures
 
 pub returns-in-Looping : goal.returns-in-Looping
-returns-in-Looping c row = finish_looping c.args.stage c.in-Looping.o c.args.n c.args.before c.placed.result c.args.table.now c.give-up.new.table row c.in-Looping.is c.give-up.ensures (c.placed.ensures ∙ ap (placed c.args.n 0) c.of.ensures)
+returns-in-Looping c row = finish_looping c.args.stage c.in-Looping.o c.args.n c.args.before c.placed.result c.args.table.now c.give_up.new.table row c.in-Looping.is c.give_up.ensures (c.placed.ensures ∙ ap (placed c.args.n 0) c.of.ensures)

@@ -8,8 +8,8 @@ use Rattle.text.proofs.taken.take_line.Goals as goal
 
 pub returns-in-Ok : goal.returns-in-Ok
 returns-in-Ok c =
-    let q = c.take-record in
-    let e = sym c.in-Ok.is ∙ c.read-line.ensures in
+    let q = c.take_record in
+    let e = sym c.in-Ok.is ∙ c.read_line.ensures in
     record {
       exact = subst (λ (z : Result Record Fault). Judged c.args.n z c.args.before (view c.args.stage c.args.table.now) c.args.row.now (found_in q.result.1) (view q.result.0 q.new.table) q.new.row) e q.ensures.exact;
       onward = q.ensures.onward;

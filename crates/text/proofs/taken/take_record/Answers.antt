@@ -24,9 +24,9 @@ returns-in-Err c =
     let s = view c.args.stage c.args.table.now in let q = c.step-next in
     let long : length q.new.table ≡ 1000 = omega (arith, c.requires.long, q.auto.table) in
     record {
-      exact = taken_err q.result.0 s c.args.what c.args.row.now q.new.row c.args.n c.args.before q.result.1 c.in-Err.f c.placed.result c.refused-field-field.result c.args.at q.new.table
+      exact = taken_err q.result.0 s c.args.what c.args.row.now q.new.row c.args.n c.args.before q.result.1 c.in-Err.f c.placed.result c.refused_field-field.result c.args.at q.new.table
           long c.in-Err.is q.ensures.exact c.requires.knows
-          (c.refused-field-field.ensures ∙ ap (λ (z : List Line). field_of (lines_of z) c.args.at.first c.args.what (matter_of c.in-Err.f.refusal)) c.front.ensures)
+          (c.refused_field-field.ensures ∙ ap (λ (z : List Line). field_of (lines_of z) c.args.at.first c.args.what (matter_of c.in-Err.f.refusal)) c.front.ensures)
           c.placed.ensures;
       onward = q.ensures.onward;
       knows = tt;

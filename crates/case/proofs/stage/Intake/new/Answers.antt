@@ -12,7 +12,7 @@ returns-then-table-ne1000 c = record { begun = (c.if-table-ne1000.true, c.of.ens
 
 pub returns : goal.returns
 returns c =
-    let b = c.blank-between.ensures (omega arith) (omega arith) in
+    let b = c.blank_between.ensures (omega arith) (omega arith) in
     record {
       begun = (c.if-table-ne1000.false, refl, b, record { history = begun; blank = blanked_from 0 1000 c.args.table.now _ (omega arith) b (subst (All IsBlank) (sym (drop_all 1000 c.args.table.now (omega arith))) tt) });
       promise = promise;

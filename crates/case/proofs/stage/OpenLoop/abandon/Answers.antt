@@ -10,5 +10,5 @@ returns-then-table-ne1000 c = (turned_wrong view_loop view_sealed abandon c.args
 pub returns : goal.returns
 returns c =
     let o = c.args.self in
-    let b = c.blank-between.ensures (omega (arith, o.placed)) (omega (arith, o.body.fits)) in
-    (abandoned_ok o c.args.table.now _ c.taken-back-sealed.result _ (omega arith) c.blank-between.auto.table c.taken-back-sealed.ensures.last c.taken-back-sealed.ensures.given refl b, b)
+    let b = c.blank_between.ensures (omega (arith, o.placed)) (omega (arith, o.body.fits)) in
+    (abandoned_ok o c.args.table.now _ c.taken_back-sealed.result _ (omega arith) c.blank_between.auto.table c.taken_back-sealed.ensures.last c.taken_back-sealed.ensures.given refl b, b)

@@ -26,9 +26,9 @@ returns-in-Ok c =
     let o = c.args.self in let t = c.args.table.now in let ns = c.args.covers.now in
     let long : length t ≡ 1000 = omega arith in
     let el = c.lines.ensures in
-    let eg = c.guard-list.ensures.exact in
+    let eg = c.guard_list.ensures.exact in
     let w = c.in-Ok.ensures (ap length el ∙ length-take-le o.body.last t (omega (arith, o.body.fits))) in
-    let few = c.guard-list.ensures.few in
-    let narrow : ¬ SomeOver c.guard-list.result.now = subst (λ (xs : List LitSet). ¬ SomeOver xs) (sym eg) o.narrow in
-    closed_ok o t _ c.lines.result.now ns c.guard-list.result.now c.closed-sealed.result _ long c.conclude.auto.table el eg c.in-Ok.ensures c.closed-sealed.ensures.last c.closed-sealed.ensures.given refl
+    let few = c.guard_list.ensures.few in
+    let narrow : ¬ SomeOver c.guard_list.result.now = subst (λ (xs : List LitSet). ¬ SomeOver xs) (sym eg) o.narrow in
+    closed_ok o t _ c.lines.result.now ns c.guard_list.result.now c.closed-sealed.result _ long c.conclude.auto.table el eg c.in-Ok.ensures c.closed-sealed.ensures.last c.closed-sealed.ensures.given refl
     (c.conclude.ensures o.plain (omega (arith, w.1, ap length eg)) narrow (omega (arith, w.1, w.2, ap length eg)))

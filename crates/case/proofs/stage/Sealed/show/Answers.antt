@@ -15,11 +15,11 @@ returns-in-Some g c =
     let x = g.R.RunSource.meaning c.args.source.now in let s = c.args.self.now in let t = c.args.table.now in
     let long : length t ≡ 1000 = omega arith in
     shown_call s t x long (Err c.at.result) (show_broken s t x long c.in-Some.n c.in-Some.i _ c.at.ensures
-    (cut s.body.given t x.run (Some (c.in-Some.n, c.in-Some.i)) (c.in-Some.ensures x c.asked-by.result c.read-moments.ensures c.asked-by.ensures)))
+    (cut s.body.given t x.run (Some (c.in-Some.n, c.in-Some.i)) (c.in-Some.ensures x c.asked_by.result c.read-moments.ensures c.asked_by.ensures)))
 
 pub returns-in-None : goal.returns-in-None
 returns-in-None g c =
     let x = g.R.RunSource.meaning c.args.source.now in let s = c.args.self.now in let t = c.args.table.now in
     let long : length t ≡ 1000 = omega arith in
     shown_call s t x long (Ok (c.lead_in.result, c.loop_length.result)) (show_kept s t x long _ _ c.lead_in.ensures c.loop_length.ensures
-    (cut s.body.given t x.run None (c.in-None.ensures x c.asked-by.result c.read-moments.ensures c.asked-by.ensures)))
+    (cut s.body.given t x.run None (c.in-None.ensures x c.asked_by.result c.read-moments.ensures c.asked_by.ensures)))

@@ -2,5 +2,5 @@ use Rattle.std.proofs.Common.{arith}
 use Rattle.protocol.proofs.Narrow.{under_none}
 use Rattle.lines.proofs.line.Line.blank.Goals as goal
 
-pub invariant-of-result : goal.invariant-of-result
-invariant-of-result c = (omega arith, ((under_none 59, under_none 59, λ h. omega arith), tt))
+pub invariant_of-result : goal.invariant_of-result
+invariant_of-result c = (omega arith, ((under_none 59, under_none 59, λ h. omega arith), tt))
