@@ -38,7 +38,7 @@ fn some_asleep(lines: &[Line], first: u16, ns: &[u16]) -> bool
 
 // Tests that each number is of a line, and then that each line is in force, where the open loop begins at `first`.
 pub fn check_named(lines: &[Line], first: u16, ns: &[u16]) -> Result<(), Fault>
-    ensures { (st : Stage) (g : ℕ) → LoopFrom first (length lines.now) st → Checked (named-causes (at_stage st g (lines_of lines.now)) ns.now) result }
+    ensures { (st : Stage) (g : ℕ) → LoopFrom first (length lines.now) st → Checked (named_causes (at_stage st g (lines_of lines.now)) ns.now) result }
 {
     if some_outside(lines, ns) {
         return Err(Fault::of(Refusal::NoSuchLine));

@@ -11,12 +11,12 @@ returns c =
     let l2 : length c.give-2.new.table ≡ length t = omega (arith, c.give-2.auto.table) in
     let l3 : length c.infer.new.table ≡ length t = omega (arith, c.infer.auto.table) in
     play_ends c.args.a c.args.b (weakening c.args.more) (c.args.cite ∷ []) c.args.n c.args.row.now c.refute.new.row c.refute.result
-    c.in-ok-intake.intake c.give.new.self c.give-2.new.self c.seal.result.0 c.infer.new.self
+    c.in_ok-intake.intake c.give.new.self c.give-2.new.self c.seal.result.0 c.infer.new.self
     t c.new.new.table c.give.new.table c.give-2.new.table c.infer.new.table
-    c.in-ok-give.field-0 c.in-ok-give-2.field-0 c.seal.result.1 c.in-ok-infer.field-0
-    c.in-ok-intake.ensures.begun l0
-    c.in-ok-give.ensures l1
-    c.in-ok-give-2.ensures l2
+    c.in_ok-give.field-0 c.in_ok-give-2.field-0 c.seal.result.1 c.in_ok-infer.field-0
+    c.in_ok-intake.ensures.begun l0
+    c.in_ok-give.ensures l1
+    c.in_ok-give-2.ensures l2
     (c.seal.ensures c.give-2.new.table)
-    c.in-ok-infer.ensures l3
+    c.in_ok-infer.ensures l3
     c.refute.ensures

@@ -3,4 +3,4 @@ use Rattle.protocol.proofs.Narrow.{under_none}
 use Rattle.lines.proofs.line.Line.blank.Goals as goal
 
 pub invariant_of-result : goal.invariant_of-result
-invariant_of-result c = (omega arith, ((under_none 59, under_none 59, λ h. omega arith), tt))
+invariant_of-result c = record { few = omega arith; narrow = (under_none 59, under_none 59, λ h. omega arith) }
