@@ -2,10 +2,11 @@
 #![tactic(auto)]
 
 use lines::line::Line;
-use programs::endings::{Ended, conclude};
+use programs::endings::{Ended, conclude, exit_code};
 use reports::files::read_text;
 use reports::report::Report;
-use std::env;
+use std::process::ExitCode;
+use std::{env, io};
 use text::cases::read_case;
 
 fn judge(rt: &HostRuntime, path: &str) -> Result<(), Ended> {
@@ -16,19 +17,19 @@ fn judge(rt: &HostRuntime, path: &str) -> Result<(), Ended> {
     conclude(rt, Report::of_case(answer, &row))
 }
 
-fn main(rt: HostRuntime) -> Result<(), Ended> {
+fn main(rt: HostRuntime) -> io::Result<ExitCode> {
     let mut args = env::args(&rt)?;
     let _ = args.next();
     match args.next() {
-        None => judge(&rt, "case.txt"),
+        None => exit_code(judge(&rt, "case.txt")),
         Some(path) => {
             if path.as_str() == "--help" {
                 println!(rt;
                     "casecheck [CASE]\n\nJudges the case text CASE (case.txt).\nA file that cannot be opened is read as a text without bytes.\n\nPrints one line, its fields parted by tabs:\n  contradiction LINE CORE               the line refuted last, and the given lines to blame\n  open LAST                             nothing refuted; the number of the last line\n  refused NUMBER LAYER LINE FIELD DETAIL  and says why on standard error\n\nEnds with 0, or with 1 if the text is refused."
                 )?;
-                return Ok(());
+                return Ok(ExitCode::SUCCESS);
             }
-            judge(&rt, path.as_str())
+            exit_code(judge(&rt, path.as_str()))
         }
     }
 }

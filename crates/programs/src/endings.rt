@@ -1,12 +1,13 @@
 ghost use Rattle.std.specs.Prelude.{◌≡◌};
 ghost use Rattle.programs.specs.declared.endings.Ended.TheVariants.{Failed};
-ghost use Rattle.programs.specs.Endings.{Ends};
+ghost use Rattle.programs.specs.Endings.{Ends, ExitsWith};
 
 use clause::refusal::Fault;
 use reasons::sentences::sentence;
 use reports::printed::report_line;
 use reports::report::Report;
 use std::io;
+use std::process::ExitCode;
 
 // Why a program ends with status 1.
 #[derive(Drop)]
@@ -42,5 +43,16 @@ pub fn conclude(rt: &HostRuntime, report: Report) -> Result<(), Ended>
     match report {
         Report::Refused(f) => Err(Ended::Refused(f)),
         _ => Ok(()),
+    }
+}
+
+// The status that `main` ends with: 0, or 1 where the report was a refusal; an error of reading or printing stays one.
+pub fn exit_code(ended: Result<(), Ended>) -> io::Result<ExitCode>
+    ensures { ExitsWith Failed ended result }
+{
+    match ended {
+        Ok(()) => Ok(ExitCode::SUCCESS),
+        Err(Ended::Refused(_)) => Ok(ExitCode::FAILURE),
+        Err(Ended::Failed(e)) => Err(e),
     }
 }
