@@ -1,12 +1,12 @@
 -- What the intake's calls are in the protocol.
-use Rattle.std.proofs.Common.{◌≡◌, ℕ, zero, suc, ◌+◌, ◌-◌, ◌<◌, ◌≤◌, ◌⊎◌, List, [], ◌∷◌, ◌++◌, length, take, drop, set, replicate, Ok, Err, Result, sym, refl, ap, ◌∙◌, subst, inl, inr, arith}
+use Rattle.std.proofs.Common.{◌≡◌, ℕ, zero, suc, ◌+◌, ◌-◌, ◌≤◌, List, [], ◌∷◌, ◌++◌, length, take, drop, replicate, Ok, Err, Result, sym, ap, ◌∙◌, subst, inl, inr, arith}
 use Rattle.std.specs.List.{AllByRecursion as All}
 use Rattle.std.proofs.lemmas.List.{length-take-le}
 use Rattle.clause.specs.declared.refusal.Fault.{Fault}
 use Rattle.clause.specs.declared.refusal.Refusal.TheVariants.{LetterRange, NoRoom}
 use Rattle.clause.specs.declared.syntax.Clause.{Clause}
 use Rattle.protocol.specs.State as model
-use Rattle.protocol.specs.Calls.{Call, give, seal, number, refused}
+use Rattle.protocol.specs.Calls.{give, seal, number, refused}
 use Rattle.protocol.specs.Causes.{OverGiven}
 use Rattle.protocol.specs.Answers.{Answered, derived}
 use Rattle.protocol.proofs.Causing.{not_if}

@@ -1,5 +1,5 @@
 -- A table and its state grow by the lines that are written.
-use Rattle.std.proofs.Common.{◌≡◌, ℕ, zero, suc, ◌+◌, ◌-◌, ◌<◌, ◌≤◌, leb, ◌⊎◌, List, [], ◌∷◌, ◌++◌, length, take, drop, set, replicate, Ok, Err, Result, sym, refl, ap, ◌∙◌, subst, inl, inr, arith}
+use Rattle.std.proofs.Common.{◌≡◌, ℕ, zero, suc, ◌+◌, ◌<◌, ◌≤◌, leb, List, [], ◌∷◌, ◌++◌, length, take, drop, set, Ok, Err, Result, sym, refl, ap, ◌∙◌, subst, inl, arith}
 use Rattle.std.specs.List.{AllByRecursion as All}
 use Rattle.std.proofs.lemmas.List.{append_assoc, length-append, length-map, length-take-le, drop-drop}
 use Rattle.clause.specs.declared.refusal.Fault.{Fault}
@@ -8,11 +8,11 @@ use Rattle.clause.specs.Refusals.{plain}
 use Rattle.protocol.specs.State as model
 use Rattle.protocol.specs.Calls.{Call, Answer, number, refused, Exists}
 use Rattle.protocol.specs.Causes.{Cause, First, NoneOf, checks, places, full, causes}
-use Rattle.protocol.specs.Answers.{Answered, Adding, Adds, Added, added}
+use Rattle.protocol.specs.Answers.{Answered, Adding, Adds, added}
 use Rattle.protocol.proofs.Causing.{none_both, first_after, first_left, not_if}
 use Rattle.protocol.proofs.Adding.{one_place, adding_result}
 use Rattle.lines.specs.declared.line.Line.{Line}
-use Rattle.lines.specs.View.{line_of, lines_of, Tidy, Written, BlankFrom, IsBlank}
+use Rattle.lines.specs.View.{line_of, Tidy, Written, BlankFrom, IsBlank}
 use Rattle.lines.proofs.Writing.{written_none, written_push, written_lines}
 use Rattle.protocol.specs.History.{then}
 use Rattle.drafts.specs.Drafts.{Drafted, SealedDraft, StageDraft}
@@ -20,7 +20,7 @@ use Rattle.std.proofs.lemmas.Bool.{lt-leb}
 use Rattle.case.specs.declared.stage.Body.{Body}
 use Rattle.case.specs.declared.stage.Sealed.{Sealed}
 use Rattle.case.specs.View.{front, view_at, view_sealed}
-use Rattle.case.specs.Calling.{answer_of, Exact, Placed, Pushed, AddedBy, AddsDraft, Led, Onward, Called}
+use Rattle.case.specs.Calling.{answer_of, Pushed, AddedBy, AddsDraft, Led, Called}
 
 -- the number of lines
 pub front_length : (n : ℕ) (t : List Line) → n ≤ length t → length (front n t) ≡ n

@@ -1,14 +1,12 @@
 -- What a refute answers.
-use Rattle.std.proofs.Common.{◌≡◌, ℕ, ◌<◌, ◌≤◌, ◌⊎◌, List, [], ◌∷◌, ◌++◌, length, take, Ok, Err, Result, sym, refl, ap, ◌∙◌, subst, inl, inr, arith}
+use Rattle.std.proofs.Common.{◌≡◌, ℕ, ◌<◌, ◌≤◌, List, length, take, Ok, Err, Result, refl, ap, subst, inl, inr, arith}
 use Rattle.std.proofs.lemmas.List.{length-take-le, length-map}
 use Rattle.clause.specs.declared.refusal.Fault.{Fault}
 use Rattle.clause.specs.declared.refusal.Refusal.TheVariants.{WrongSize, NoSuchLine}
 use Rattle.clause.specs.Refusals.{plain}
 use Rattle.protocol.specs.State as model
-use Rattle.protocol.specs.Calls.{Call, Answer, refute, core, refused}
-use Rattle.protocol.specs.Causes.{First, NoneOf, named, refutable, causes}
+use Rattle.protocol.specs.Calls.{Call, Answer, refute, core}
 use Rattle.protocol.specs.Answers.{Answered}
-use Rattle.protocol.specs.Promise.{Verdicts}
 use Rattle.protocol.proofs.Causing.{not_if}
 use Rattle.protocol.proofs.Histories.{promise}
 use Rattle.lines.specs.declared.line.Line.{Line}

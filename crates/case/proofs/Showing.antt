@@ -1,7 +1,7 @@
 -- The given lines put to a run.
-use Rattle.std.proofs.Common.{◌≡◌, ℕ, ◌+◌, ◌-◌, ◌<◌, ◌≤◌, ◌⊎◌, List, [], ◌∷◌, map, length, get_or, take, Some, None, Ok, Err, Option, Result, sym, refl, ap, ◌∙◌, subst, inl, inr, ⊎_elim, arith}
+use Rattle.std.proofs.Common.{◌≡◌, ℕ, ◌+◌, ◌-◌, ◌<◌, ◌≤◌, List, length, get_or, take, Some, None, Ok, Err, Result, sym, refl, ap, ◌∙◌, subst, inl, ⊎_elim, arith}
 use lib.Bits.{bit_or}
-use Rattle.std.proofs.lemmas.List.{get_or-take, take-map, length-map, length-take-le, take_all, take-take}
+use Rattle.std.proofs.lemmas.List.{get_or-take, take-map, length-map, length-take-le, take_all}
 use Rattle.std.proofs.lemmas.Bool.{cases_eq}
 use Rattle.clause.specs.declared.refusal.Fault.{Fault}
 use Rattle.clause.specs.declared.refusal.Refusal.TheVariants.{RunBreaks}
@@ -9,16 +9,14 @@ use Rattle.clause.specs.Refusals.{fault_at}
 use Rattle.clause.specs.declared.syntax.Clause.{Clause}
 use Rattle.clause.specs.Bit.{In}
 use Rattle.clause.specs.Meaning.{Run, Broken, Unbroken, Keeps}
-use Rattle.clause.specs.Sets.{Narrow, literal_of}
+use Rattle.clause.specs.Sets.{literal_of}
 use Rattle.clause.proofs.Masks.{in_left, in_right}
 use Rattle.runs.specs.Source.{Source}
 use Rattle.runs.specs.Breaks.{FirstBreak}
 use Rattle.runs.specs.Moments.{asks}
 use Rattle.protocol.specs.State as model
-use Rattle.protocol.specs.Calls.{Call, Answer, show, shown, refused}
-use Rattle.protocol.specs.Causes.{causes, LowestBroken}
+use Rattle.protocol.specs.Calls.{show, shown, refused}
 use Rattle.protocol.specs.Answers.{Answered}
-use Rattle.protocol.specs.Promise.{KeepsGiven}
 use Rattle.protocol.proofs.Histories.{kept_at}
 use Rattle.lines.specs.declared.line.Line.{Line}
 use Rattle.lines.specs.View.{line_of, lines_of}

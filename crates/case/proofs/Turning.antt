@@ -1,5 +1,5 @@
 -- Calls that change the stage.
-use Rattle.std.proofs.Common.{◌≡◌, ℕ, ◌+◌, ◌-◌, ◌<◌, ◌≤◌, leb, ◌⊎◌, List, [], ◌∷◌, ◌++◌, map, length, take, drop, Ok, Err, Result, sym, refl, ap, ◌∙◌, subst, inl, inr, ⊎_elim, arith}
+use Rattle.std.proofs.Common.{◌≡◌, ℕ, ◌+◌, ◌-◌, ◌<◌, ◌≤◌, List, ◌++◌, map, length, take, drop, Ok, Err, Result, sym, refl, ap, ◌∙◌, subst, inl, inr, ⊎_elim, arith}
 use Rattle.std.proofs.lemmas.List.{length-map, length-take-le, take-take, take-map, take_all, take-append-le}
 use Rattle.clause.specs.declared.refusal.Fault.{Fault}
 use Rattle.clause.specs.declared.refusal.Refusal.TheVariants.{WrongSize, LetterRange, WrongCount, NoRoom}
@@ -7,8 +7,8 @@ use Rattle.clause.specs.Refusals.{plain}
 use Rattle.clause.specs.declared.syntax.LitSet.{LitSet}
 use Rattle.clause.specs.declared.syntax.Literal.{Literal}
 use Rattle.protocol.specs.State as model
-use Rattle.protocol.specs.Calls.{Call, open_loop, close, abandon, Answer, number, refused, Exists}
-use Rattle.protocol.specs.Causes.{First, NoneOf, causes, checks, places, full, SomeOver}
+use Rattle.protocol.specs.Calls.{Call, open_loop, close, abandon, number, refused, Exists}
+use Rattle.protocol.specs.Causes.{First, NoneOf, causes, SomeOver}
 use Rattle.protocol.specs.Answers.{Answered, Adding, assumed, nevers}
 use Rattle.protocol.proofs.Causing.{not_if}
 use Rattle.lines.specs.declared.line.Line.{Line}
@@ -20,7 +20,7 @@ use Rattle.case.specs.declared.stage.Body.{Body}
 use Rattle.case.specs.declared.stage.OpenLoop.{OpenLoop}
 use Rattle.case.specs.declared.stage.Sealed.{Sealed}
 use Rattle.case.specs.View.{front, view_at, view_sealed, view_loop, guards_in, stage_of}
-use Rattle.case.specs.Calling.{Placed, Onward, Led, Called, AddsDraft, answer_of}
+use Rattle.case.specs.Calling.{Placed, Called, AddsDraft, answer_of}
 use Rattle.case.specs.Looping.{LoopOf, Moved, Turned, Opened, Closed}
 use Rattle.case.proofs.Growing.{front_length, new_lines, blank_after, leads}
 use Rattle.case.proofs.Giving.{blanked_from}

@@ -1,5 +1,5 @@
 -- What the contract of a call on a case says.
-use Rattle.std.specs.Prelude.{◌≡◌, ℕ, ◌+◌, ◌-◌, ◌<◌, ◌≤◌, List, [], ◌∷◌, length, drop, Ok, Err, Result, ◌≢◌, slice_set}
+use Rattle.std.specs.Prelude.{◌≡◌, ℕ, ◌+◌, ◌<◌, ◌≤◌, List, [], ◌∷◌, length, drop, Ok, Err, Result, ◌≢◌, slice_set}
 use Rattle.clause.specs.declared.refusal.Fault.{Fault}
 use Rattle.clause.specs.declared.refusal.Refusal.TheVariants.{WrongSize, NoRoom}
 use Rattle.clause.specs.Refusals.{plain}
@@ -12,9 +12,8 @@ use Rattle.lines.specs.View.{Written, Blanked, BlankFrom}
 use Rattle.drafts.specs.Drafts.{Drafted}
 use Rattle.case.specs.declared.stage.Body.{Body}
 use Rattle.case.specs.declared.stage.Intake.{Intake}
-use Rattle.case.specs.declared.stage.OpenLoop.{OpenLoop}
 use Rattle.case.specs.declared.stage.Sealed.{Sealed}
-use Rattle.case.specs.View.{view_at, view_intake, view_sealed, view_loop}
+use Rattle.case.specs.View.{view_at, view_intake, view_sealed}
 
 abbrev pub answer_of : Result ℕ Fault → Answer
 answer_of (Ok n) = number n

@@ -1,10 +1,9 @@
 -- What a book's answer is among the causes of infer.
-use Rattle.std.proofs.Common.{◌≡◌, ℕ, ◌<◌, ◌≤◌, ◌⊎◌, List, length, Some, None, Option, sym, refl, ap, ◌∙◌, subst, inl, inr, ⊎_elim, arith}
+use Rattle.std.proofs.Common.{◌≡◌, ℕ, ◌≤◌, List, None, subst, inl, inr, ⊎_elim, arith}
 use Rattle.std.proofs.lemmas.Bool.{cases_lt}
 use Rattle.clause.specs.declared.refusal.Fault.{Fault}
 use Rattle.clause.specs.declared.refusal.Refusal.{Refusal}
 use Rattle.clause.specs.declared.refusal.Refusal.TheVariants.{RestingEverywhere}
-use Rattle.clause.specs.declared.syntax.Clause.{Clause}
 use Rattle.clause.specs.Refusals.{plain}
 use Rattle.rules.specs.Books.{Consult, Mark, Conclusion, gives, refuses}
 use Rattle.protocol.specs.State as model

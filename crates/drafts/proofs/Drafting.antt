@@ -1,18 +1,16 @@
 -- From the tests of a draft to the causes of its call.
-use Rattle.std.proofs.Common.{◌≡◌, ℕ, ◌≤◌, List, [], ◌∷◌, ◌++◌, length, Ok, Err, Result, sym, refl, ap, ◌∙◌, subst}
+use Rattle.std.proofs.Common.{◌≡◌, ℕ, ◌≤◌, List, ◌++◌, length, Err, Result, sym, ap, subst}
 use Rattle.clause.specs.declared.refusal.Fault.{Fault}
 use Rattle.clause.specs.declared.syntax.Clause.{Clause}
-use Rattle.clause.specs.Sets.{Narrow}
 use Rattle.protocol.specs.State as model
-use Rattle.protocol.specs.Calls.{Call, wait_line, draw, draw_alone}
-use Rattle.protocol.specs.Causes.{Cause, First, NoneOf, named, eventual, never, drawn, checks}
-use Rattle.protocol.specs.Answers.{waited_clause, drawn_clause, drawn_alone, derived}
+use Rattle.protocol.specs.Calls.{Call}
+use Rattle.protocol.specs.Causes.{Cause, First, NoneOf, named, checks}
 use Rattle.protocol.proofs.Causing.{none_both, first_after, first_left}
 use Rattle.lines.specs.declared.line.Line.{Line}
 use Rattle.lines.specs.View.{line_of, lines_of}
-use Rattle.lines.specs.Named.{LoopFrom, at_stage, Checked}
+use Rattle.lines.specs.Named.{LoopFrom, at_stage}
 use Rattle.lines.proofs.Forcing.{sealed_from}
-use Rattle.drafts.specs.Drafts.{Drafted, SealedDraft}
+use Rattle.drafts.specs.Drafts.{Drafted}
 
 -- a draft that was refused
 pub refused_draft : (s : model.State) (c : Call) (r : Result Line Fault) (f : Fault) → r ≡ Err f → First (checks s c) f → Drafted s c r

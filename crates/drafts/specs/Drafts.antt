@@ -1,5 +1,5 @@
 -- A line that a call adds, were there a place for it.
-use Rattle.std.specs.Prelude.{◌≡◌, ℕ, ◌≤◌, List, length, Ok, Err, Result}
+use Rattle.std.specs.Prelude.{ℕ, ◌≤◌, List, length, Ok, Err, Result}
 use Rattle.clause.specs.declared.refusal.Fault.{Fault}
 use Rattle.protocol.specs.State as model
 use Rattle.protocol.specs.Calls.{Call}

@@ -1,11 +1,10 @@
 -- The first part of a text, read byte by byte.
-use Rattle.std.proofs.Common.{◌≡◌, ℕ, ◌+◌, ◌-◌, ◌*◌, ◌<◌, ◌≤◌, Bool, true, false, cond, ◌&&◌, eqb, ◌⊎◌, List, [], ◌∷◌, length, get_or, take, drop, Some, None, Option, sym, refl, ap, ◌∙◌, subst, inl, inr, ⊎_elim, arith, take_all}
-use Rattle.std.proofs.lemmas.Bool.{eq-eqb, ne_eqb, cases_eq, cond_both, cond-true, cond-false}
+use Rattle.std.proofs.Common.{◌≡◌, ℕ, ◌+◌, ◌-◌, ◌*◌, ◌<◌, ◌≤◌, Bool, true, false, ◌⊎◌, List, [], ◌∷◌, length, get_or, take, drop, Some, None, Option, sym, refl, ap, ◌∙◌, ⊎_elim, arith, take_all}
+use Rattle.std.proofs.lemmas.Bool.{cases_eq}
 use Rattle.std.proofs.lemmas.Bool.Decides.{nat_tests}
 use Rattle.forms.specs.Cuts.{split, onto}
-use Rattle.forms.specs.declared.literals.Written.{Written}
 use Rattle.forms.specs.Fields.{and_then, one_of}
-use Rattle.forms.specs.Forms.{Left, Leads, lead, sole, alone, digits_of, number_of, signed, literal_of, is_digit}
+use Rattle.forms.specs.Forms.{Left, Leads, lead, sole, alone, digits_of, number_of, signed, literal_of}
 use Rattle.forms.proofs.Splits.{split_here, split_later, split_some}
 
 -- what `[x, rest @ ..]` calls x and rest

@@ -1,5 +1,5 @@
 -- A text cut at a byte.
-use Rattle.std.specs.Prelude.{ℕ, suc, Bool, true, false, cond, List, [], ◌∷◌, ◌==◌}
+use Rattle.std.specs.Prelude.{ℕ, suc, cond, List, [], ◌∷◌, ◌==◌}
 
 -- x before the first piece
 abbrev pub onto : ℕ → List (List ℕ) → List (List ℕ)

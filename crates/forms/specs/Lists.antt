@@ -1,5 +1,5 @@
 -- Fields that hold more than one number.
-use Rattle.std.specs.Prelude.{ℕ, ◌+◌, ◌-◌, ◌^◌, min, Bool, true, false, cond, ◌||◌, List, [], ◌∷◌, ◌++◌, length, take, replicate, Some, None, Option, bit_or, nat_lt}
+use Rattle.std.specs.Prelude.{ℕ, ◌+◌, ◌-◌, ◌^◌, min, true, false, cond, List, [], ◌∷◌, ◌++◌, length, take, replicate, Some, None, Option, bit_or, nat_lt}
 use Rattle.forms.specs.declared.lists.Numbers.{Numbers}
 use Rattle.forms.specs.declared.lists.Letters.{Letters}
 use Rattle.forms.specs.Cuts.{split}

@@ -1,10 +1,9 @@
 -- Loops over cited numbers.
-use Rattle.std.proofs.Common.{◌≡◌, ℕ, zero, suc, ◌+◌, ◌-◌, ◌/◌, ◌%◌, ◌<◌, ◌≤◌, Bool, true, false, cond, ◌||◌, eqb, ◌⊎◌, List, [], ◌∷◌, ◌++◌, map, length, get_or, take, drop, set, sym, refl, ap, ◌∙◌, subst, inl, inr, ⊎_elim, arith}
+use Rattle.std.proofs.Common.{◌≡◌, ℕ, zero, suc, ◌+◌, ◌-◌, ◌/◌, ◌%◌, ◌<◌, ◌≤◌, Bool, true, false, cond, ◌||◌, eqb, List, [], ◌∷◌, ◌++◌, map, length, get_or, take, drop, set, sym, refl, ap, ◌∙◌, subst, inl, inr, arith}
 use Rattle.std.proofs.lemmas.List.{take_more, take_all, take_more_set, drop_more, drop_all, at_drop_more, at_drop_all, map_more}
-use Rattle.std.proofs.lemmas.Bool.{cases_Bool, true≢false, eqb-true, eq-eqb}
-use Rattle.clause.specs.declared.syntax.Clause.{Clause}
+use Rattle.std.proofs.lemmas.Bool.{true≢false, eqb-true, eq-eqb}
 use Rattle.rules.specs.Books.{Mark, here, everywhere, marks_of}
-use Rattle.protocol.specs.State.{Line, line_at, clause_at, clauses_at, any_resting}
+use Rattle.protocol.specs.State.{Line, line_at, any_resting}
 use Rattle.protocol.specs.Causes.{SomeIn, RestEverywhere}
 
 -- some number

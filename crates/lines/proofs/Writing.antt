@@ -1,7 +1,7 @@
 -- Places written one after another.
 use Rattle.std.proofs.Common.{◌≡◌, ℕ, zero, suc, ◌+◌, ◌-◌, ◌<◌, ◌≤◌, List, [], ◌∷◌, ◌++◌, map, length, get_or, take, drop, set, replicate, sym, refl, ap, ◌∙◌, subst, arith}
 use Rattle.std.specs.List.{AllByRecursion as All}
-use Rattle.std.proofs.lemmas.List.{append_assoc, append-nil, length-append, length-map, length_push, length-take-le, map_more, take_all, take-append-drop, take-append-le, drop_more, drop_all, map-append, length-replicate}
+use Rattle.std.proofs.lemmas.List.{append_assoc, length-append, length-map, length_push, length-take-le, map_more, take_all, take-append-drop, take-append-le, drop_more, map-append, length-replicate}
 use Rattle.clause.specs.declared.syntax.LitSet.{LitSet}
 use Rattle.clause.specs.Meaning.{none}
 use Rattle.protocol.specs.State as model

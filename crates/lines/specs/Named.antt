@@ -1,5 +1,5 @@
 -- Tests of the lines that a call names.
-use Rattle.std.specs.Prelude.{◌≡◌, ℕ, ◌<◌, ◌≤◌, true, List, length, Some, None, Ok, Err, Option, Result, nat_le}
+use Rattle.std.specs.Prelude.{◌≡◌, ℕ, ◌<◌, ◌≤◌, true, List, Some, None, Ok, Err, Option, Result, nat_le}
 use Rattle.clause.specs.declared.refusal.Fault.{Fault}
 use Rattle.clause.specs.declared.syntax.LitSet.{LitSet}
 use Rattle.protocol.specs.State as model

@@ -1,12 +1,10 @@
 -- Why each rule is sound of every run.
-use Rattle.std.proofs.Common.{◌≡◌, ℕ, zero, suc, ◌+◌, ◌-◌, ◌^◌, ◌<◌, ◌≤◌, Bool, true, false, List, [], ◌∷◌, refl, ap, ◌∙◌, ⊎_elim, arith}
-use Rattle.std.proofs.lemmas.Bool.{lt-ltb, le-ltb, cases_order, both_ways}
+use Rattle.std.proofs.Common.{◌≡◌, ℕ, zero, suc, ◌+◌, ◌-◌, ◌≤◌, List, [], ◌∷◌, arith}
 use Rattle.std.proofs.ByRecursion.{All-weaker}
 use Rattle.std.specs.List.{AllByRecursion as All}
 use Rattle.clause.specs.Sets.{waits_set, waits_not_set}
 use Rattle.clause.proofs.Truths.{untrue_left, untrue_right, untrue_just, untrue_waits, untrue_waits_not, later}
-use Rattle.clause.proofs.Masks.{in_pow, not_in_zero, in_left, in_right}
-use Rattle.clause.specs.Meaning.{Run, PlainTrue, Waits, waited, LetterTrue, Untrue, Unbroken, Keeps, Within, none, just, waiting, ◌∪◌}
+use Rattle.clause.specs.Meaning.{Run, PlainTrue, Untrue, Unbroken, Keeps, none, just, ◌∪◌}
 use Rattle.clause.specs.declared.syntax.Clause.TheVariants.{Global, Eventuality, Assumption, Never}
 use Rattle.clause.specs.declared.syntax.LitSet.{LitSet}
 use Rattle.clause.specs.declared.syntax.Literal.{Literal}

@@ -1,5 +1,5 @@
 -- Given lines stay at most 200, and lines at most 1,000.
-use Rattle.std.proofs.Common.{◌≡◌, ℕ, ◌+◌, ◌-◌, ◌<◌, ◌≤◌, min, List, [], ◌∷◌, ◌++◌, map, length, take, sym, refl, ap, ◌∙◌, subst, ⊎_elim, arith}
+use Rattle.std.proofs.Common.{◌≡◌, ℕ, ◌+◌, ◌-◌, ◌<◌, ◌≤◌, List, [], ◌∷◌, ◌++◌, map, length, sym, refl, ◌∙◌, subst, ⊎_elim, arith}
 use Rattle.std.proofs.lemmas.Bool.{cases_eq}
 use Rattle.clause.specs.declared.syntax.Clause.{Clause}
 use Rattle.std.proofs.lemmas.List.{length-append, length-map, length-take}
@@ -7,7 +7,7 @@ use Rattle.clause.specs.declared.refusal.Refusal.TheVariants.{NoRoom, WrongCount
 use Rattle.protocol.specs.State.{Line, Stage, intake, sealed, loop, State, last, guards_of, loop_literal, loop_first}
 use Rattle.protocol.specs.Calls.{Call, give, seal, infer, wait_line, wait_literal, open_loop, close, abandon, draw, draw_alone, refute, show, Answer, number, core, shown, refused, Exists}
 use Rattle.protocol.specs.Causes.{NoneOf, causes}
-use Rattle.protocol.specs.Answers.{Result, Answered, assumed, nevers, derived}
+use Rattle.protocol.specs.Answers.{Result, Answered, assumed, nevers}
 use Rattle.protocol.proofs.Invariant.{IsIntake, Inv}
 use Rattle.protocol.proofs.Steps.{not_due}
 

@@ -17,7 +17,7 @@ use Rattle.protocol.proofs.Lines.{none_in, all_both, none_resting, RestsOn}
 use Rattle.protocol.specs.Answers.{derived, assumed, nevers}
 use Rattle.protocol.specs.Causes.{SomeIn, Outside, NotEventuality, NotNever, NotGlobal, Unfit, RestEverywhere}
 use Rattle.protocol.specs.State.{Line, Stage, sealed, loop, line_at, clause_at, clauses_at, in_loop, any_resting}
-use Rattle.rules.specs.Books.{Conclusion, initially, globally, Consult, Mark, here, everywhere, concluded, gives, Used, Sound}
+use Rattle.rules.specs.Books.{Conclusion, Consult, Mark, here, everywhere, concluded, gives, Used, Sound}
 
 abbrev pub Inside : List Line → ℕ → Type 0
 Inside ls n = (1 ≤ n) × (n ≤ length ls)

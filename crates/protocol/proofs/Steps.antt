@@ -11,7 +11,6 @@ use Rattle.clause.specs.declared.refusal.Refusal.TheVariants.{LetterRange, Wrong
 use Rattle.protocol.proofs.Narrow.{narrow_given}
 use Rattle.clause.specs.declared.refusal.Fault.{Fault}
 use Rattle.clause.specs.declared.syntax.Clause.{Clause}
-use Rattle.clause.specs.declared.syntax.Clause.TheVariants.{Initial, Global, Eventuality, Assumption, Never}
 use Rattle.clause.specs.declared.syntax.LitSet.{LitSet}
 use Rattle.clause.specs.declared.syntax.Literal.{Literal}
 use Rattle.protocol.proofs.Invariant.{IsIntake, Inv, New, extended, pushed}
@@ -19,7 +18,7 @@ use Rattle.protocol.proofs.Lines.{none_in, old_line, new_line, kept_line, rests_
 use Rattle.protocol.proofs.Rules.{inside, insides, infer_new, wait_new, wait_literal_new, draw_new, draw_alone_new, assumed_new, close_new}
 use Rattle.protocol.specs.Answers.{Result, Answered, derived, assumed, nevers, Adds, Added}
 use Rattle.protocol.specs.Calls.{Call, give, seal, infer, wait_line, wait_literal, open_loop, close, abandon, draw, draw_alone, refute, show, Answer, number, core, shown, refused, Exists}
-use Rattle.protocol.specs.Causes.{if, NoneOf, causes, OverGiven, SomeIn, SomeOver}
+use Rattle.protocol.specs.Causes.{if, NoneOf, causes, OverGiven, SomeOver}
 use Rattle.protocol.specs.Cores.{itself}
 use Rattle.protocol.specs.State.{Line, Stage, intake, sealed, loop, State, clause_at}
 

@@ -1,5 +1,5 @@
 -- Every call has at most one answer, and leaves at most one state (no part of the promise: a check of the definitions).
-use Rattle.std.proofs.Common.{◌≡◌, ℕ, zero, suc, ◌+◌, ◌-◌, ◌<◌, ◌≤◌, ◌⊎◌, List, [], ◌∷◌, ◌++◌, length, replicate, Some, sym, refl, ap, ◌∙◌, subst, inl, inr, ⊎_elim, arith}
+use Rattle.std.proofs.Common.{◌≡◌, ℕ, ◌+◌, ◌<◌, ◌≤◌, ◌⊎◌, List, [], ◌∷◌, length, sym, refl, ap, ◌∙◌, subst, inl, inr, ⊎_elim, arith}
 use Rattle.std.proofs.lemmas.Bool.{cases_order}
 use Rattle.clause.specs.Meaning.{Run}
 use Rattle.clause.specs.declared.refusal.Fault.{Fault}
@@ -10,7 +10,6 @@ use Rattle.protocol.specs.Calls.{Call, Answer, give, seal, infer, wait_line, wai
 use Rattle.protocol.specs.Causes.{Cause, if, First, NoneOf, causes, SomeIn, Unfit, LowestBroken}
 use Rattle.protocol.specs.Cores.{Rising, IsCore, padded}
 use Rattle.protocol.specs.State.{Line, State}
-use Rattle.rules.specs.Books.{refuses}
 
 abbrev Sharp : List Cause → Type 0
 Sharp [] = Unit {0}

@@ -1,5 +1,5 @@
 -- What a call is answered, and the state that it leaves.
-use Rattle.std.specs.Prelude.{◌≡◌, ℕ, ◌+◌, ◌-◌, Bool, true, false, List, [], ◌∷◌, ◌++◌, map, length, take}
+use Rattle.std.specs.Prelude.{◌≡◌, ℕ, ◌+◌, ◌-◌, true, false, List, [], ◌∷◌, ◌++◌, map, length, take}
 use Rattle.clause.specs.declared.syntax.Literal.{Literal}
 use Rattle.clause.specs.declared.syntax.LitSet.{LitSet}
 use Rattle.clause.specs.declared.syntax.Clause.{Clause}
@@ -7,7 +7,7 @@ use Rattle.clause.specs.declared.syntax.Clause.TheVariants.{Global, Assumption, 
 use Rattle.clause.specs.Meaning.{none, just, ◌∪◌}
 use Rattle.clause.specs.Sets.{now_of, literal_of, waits_set, waits_not_set}
 use Rattle.rules.specs.Books.{Mark, Conclusion, concluded, gives}
-use Rattle.protocol.specs.State.{Line, Stage, State, intake, sealed, loop, last, clause_at, clauses_at, any_resting, guards_of, loop_literal, loop_first}
+use Rattle.protocol.specs.State.{Line, State, intake, sealed, loop, last, clause_at, clauses_at, any_resting, guards_of, loop_literal, loop_first}
 use Rattle.protocol.specs.Calls.{Call, give, seal, infer, wait_line, wait_literal, open_loop, close, abandon, draw, draw_alone, refute, show, Answer, number, core, shown, refused}
 use Rattle.protocol.specs.Causes.{First, NoneOf, causes}
 use Rattle.protocol.specs.Cores.{IsCore, padded}

@@ -10,7 +10,7 @@ use Rattle.clause.specs.Refusals.{plain, fault_at}
 use Rattle.clause.specs.Meaning.{Run, Broken, Unbroken, Keeps, Within, none}
 use Rattle.clause.specs.Sets.{Over, now_of, next_of, literal_of}
 use Rattle.rules.specs.Books.{Consult, Mark, here, everywhere, Conclusion, refuses, gives}
-use Rattle.protocol.specs.State.{Line, Stage, State, last, line_at, clause_at, clauses_at, in_loop, guards_of}
+use Rattle.protocol.specs.State.{Line, State, last, line_at, clause_at, clauses_at, in_loop, guards_of}
 use Rattle.protocol.specs.Calls.{Call, give, seal, infer, wait_line, wait_literal, open_loop, close, abandon, draw, draw_alone, refute, show}
 
 -- a cause says which fault is due

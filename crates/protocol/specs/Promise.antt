@@ -1,9 +1,9 @@
 -- What holds after every list of calls on a case just made, for every rule book and every run source.
-use Rattle.std.specs.Prelude.{◌≡◌, ℕ, ◌≤◌, false, ◌↔◌, List, [], ◌∷◌, length}
+use Rattle.std.specs.Prelude.{◌≡◌, ℕ, ◌≤◌, false, ◌↔◌, List, length}
 use Rattle.clause.specs.Meaning.{Run, Keeps}
 use Rattle.clause.specs.Sets.{Narrow}
 use Rattle.runs.specs.Source.{Source}
-use Rattle.protocol.specs.State.{Line, State, line_at, clause_at, last}
+use Rattle.protocol.specs.State.{State, line_at, clause_at, last}
 use Rattle.protocol.specs.Calls.{Call, Answer, refute, show, core, shown, Exists}
 use Rattle.protocol.specs.Causes.{SomeIn}
 use Rattle.protocol.specs.Cores.{IsCore, Reaches, padded}

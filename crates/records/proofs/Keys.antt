@@ -1,5 +1,5 @@
 -- A key that no record of a case text has.
-use Rattle.std.proofs.Common.{◌≡◌, ℕ, Bool, List, sym, refl}
+use Rattle.std.proofs.Common.{◌≡◌, ℕ, Bool, List, refl}
 use Rattle.std.proofs.lemmas.Bool.{ne_eqb}
 use Rattle.records.specs.Fields.{unknown}
 use Rattle.records.specs.Records.{by_key}

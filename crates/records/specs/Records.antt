@@ -1,5 +1,5 @@
 -- What a line of a case text says.
-use Rattle.std.specs.Prelude.{ℕ, Bool, cond, List, [], ◌∷◌, Ok, Err, Result, ◌==◌}
+use Rattle.std.specs.Prelude.{ℕ, Bool, cond, List, [], ◌∷◌, Err, Result, ◌==◌}
 use Rattle.clause.specs.declared.refusal.Fault.{Fault}
 use Rattle.clause.specs.declared.refusal.Refusal.TheVariants.{FieldCount}
 use Rattle.clause.specs.declared.syntax.Literal.{Literal}

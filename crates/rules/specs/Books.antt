@@ -1,5 +1,5 @@
 -- What a rule book means, with its evidence given.
-use Rattle.std.specs.Prelude.{◌≡◌, ℕ, zero, suc, ◌/◌, ◌%◌, ◌^◌, ◌<◌, ◌≤◌, Bool, true, false, cond, ◌⊎◌, List, [], ◌∷◌, length, Some, None, Ok, Err, Option, Result, ◌==◌}
+use Rattle.std.specs.Prelude.{◌≡◌, ℕ, zero, suc, ◌/◌, ◌%◌, ◌^◌, ◌<◌, ◌≤◌, Bool, true, cond, ◌⊎◌, List, [], ◌∷◌, length, Some, Ok, Err, Option, Result, ◌==◌}
 use Rattle.std.specs.List.{AllByRecursion as All}
 use Rattle.clause.specs.declared.syntax.LitSet.{LitSet}
 use Rattle.clause.specs.declared.syntax.Clause.{Clause}
@@ -7,7 +7,7 @@ use Rattle.clause.specs.declared.syntax.Clause.TheVariants.{Initial, Global}
 use Rattle.clause.specs.declared.refusal.Refusal.{Refusal}
 use Rattle.clause.specs.declared.refusal.Refusal.TheVariants.{LetterRange, WrongCount}
 use Rattle.clause.specs.Refusals.{number_of}
-use Rattle.clause.specs.Meaning.{Run, Unbroken, Keeps, none}
+use Rattle.clause.specs.Meaning.{Run, Unbroken, Keeps}
 use Rattle.clause.specs.Sets.{Narrow}
 
 -- how a cited line is used: at the moment of the conclusion, or at every moment

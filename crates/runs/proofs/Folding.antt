@@ -1,8 +1,6 @@
 -- What a table of worlds answers.
-use Rattle.std.proofs.Common.{◌≡◌, ℕ, ◌+◌, ◌-◌, ◌%◌, ◌<◌, ◌≤◌, Bool, cond, ltb, Ok, Err, Result, sym, refl, ap, ◌∙◌, mod-eq_of_lt, arith}
+use Rattle.std.proofs.Common.{◌≡◌, ℕ, ◌+◌, ◌-◌, ◌%◌, ◌<◌, ◌≤◌, ltb, Ok, refl, mod-eq_of_lt, arith}
 use Rattle.std.proofs.lemmas.Bool.{le-ltb, lt-ltb, cond_both, ltb-false}
-use Rattle.clause.specs.declared.refusal.Fault.{Fault}
-use Rattle.runs.specs.Source.{Source, end_of}
 use Rattle.runs.specs.declared.table.WorldTable.{WorldTable}
 use Rattle.runs.specs.Table.{folded, letter_in, means}
 use Rattle.runs.specs.Letters.{letter_answer}

@@ -1,21 +1,20 @@
 -- From what the worlds tell of a clause to where the run first breaks it.
-use Rattle.std.proofs.Common.{◌≡◌, ℕ, zero, suc, ◌+◌, ◌-◌, ◌^◌, ◌<◌, ◌≤◌, Bool, true, false, cond, eqb, ◌⊎◌, ◌↔◌, List, length, get_or, Some, None, Option, sym, refl, ap, ◌∙◌, subst, inl, inr, ⊎_elim, arith}
-use lib.Bits.{bit_or}
-use Rattle.std.proofs.lemmas.Bool.{cases_eq, cases_lt, cases_Bool, cond_both, eq-eqb, ne_eqb, both_ways}
+use Rattle.std.proofs.Common.{◌≡◌, ℕ, ◌+◌, ◌-◌, ◌<◌, ◌≤◌, true, ◌↔◌, List, length, get_or, Some, None, Option, sym, refl, ◌∙◌, subst, inl, inr, ⊎_elim, arith}
+use Rattle.std.proofs.lemmas.Bool.{cases_eq, cases_lt, eq-eqb, ne_eqb, both_ways}
 use Rattle.clause.specs.declared.syntax.Literal.{Literal}
 use Rattle.clause.specs.declared.syntax.LitSet.{LitSet}
 use Rattle.clause.specs.declared.syntax.Clause.{Clause}
 use Rattle.clause.specs.declared.syntax.Clause.TheVariants.{Initial, Global, Eventuality, Assumption, Never}
 use Rattle.clause.specs.Bit.{bit, In}
-use Rattle.clause.specs.Meaning.{Run, PlainTrue, LetterTrue, Untrue, Broken, Unbroken, Keeps, none}
+use Rattle.clause.specs.Meaning.{Run, PlainTrue, Untrue, Broken}
 use Rattle.clause.specs.Sets.{Over, Narrow, UntrueIn}
 use Rattle.clause.proofs.Masks.{in_left, in_right, in_pow, not_in_zero}
-use Rattle.clause.proofs.Truths.{plain_letter, untrue_none}
+use Rattle.clause.proofs.Truths.{plain_letter}
 use Rattle.runs.specs.Source.{Source, end_of}
 use Rattle.runs.specs.Breaks.{FirstBreak, FirstIn, successor}
 use Rattle.runs.specs.Moments.{World, letters, asks, true_in, LastTrue, BreaksAt, Comes, Gone, Judged}
 use Rattle.runs.proofs.Seeing.{true_from, true_to, untrue_to}
-use Rattle.runs.proofs.Turns.{Like, like, again, turned, Follows, true_moves, untrue_moves, broken_moves, Late}
+use Rattle.runs.proofs.Turns.{like, again, turned, Follows, true_moves, untrue_moves, broken_moves, Late}
 
 -- what holds from a on and below i, and at i, holds below i + 1
 pub from_more : (P : ℕ → Type 0) (a i : ℕ) → ((j : ℕ) → a ≤ j → j < i → P j) → P i → (j : ℕ) → a ≤ j → j < i + 1 → P j

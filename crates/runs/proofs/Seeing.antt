@@ -1,12 +1,10 @@
 -- The plain letters of a world, and then its waiting letters.
-use Rattle.std.proofs.Common.{◌≡◌, ℕ, zero, suc, ◌+◌, ◌-◌, ◌/◌, ◌^◌, ◌<◌, ◌≤◌, Bool, true, false, cond, not, ◌&&◌, eqb, ltb, ◌⊎◌, ◌↔◌, List, length, get_or, set, Some, None, Option, sym, refl, ap, ◌∙◌, subst, inl, inr, ⊎_elim, add-one, arith}
-use mathlib.Core.Bool.{beq}
-use lib.Bits.{bit_or}
-use Rattle.std.proofs.lemmas.Bool.{cases_eq, cases_lt, cases_Bool, cond_both, eq-eqb, ne_eqb, eqb-true, eqb-false, true≢false, false≢true, lt-ltb, ltb-true, and_parts, and_from, not-true, not_from_false, le-ltb, both_ways}
+use Rattle.std.proofs.Common.{◌≡◌, ℕ, zero, suc, ◌+◌, ◌-◌, ◌/◌, ◌^◌, ◌<◌, ◌≤◌, Bool, true, false, not, ◌&&◌, eqb, ◌↔◌, List, get_or, Some, None, Option, sym, refl, ap, ◌∙◌, subst, ⊎_elim, add-one, arith}
+use Rattle.std.proofs.lemmas.Bool.{cases_eq, cases_lt, cases_Bool, eq-eqb, ne_eqb, eqb-true, false≢true, lt-ltb, ltb-true, and_parts, and_from, not-true, not_from_false, le-ltb, both_ways}
 use Rattle.clause.specs.declared.syntax.Literal.{Literal}
 use Rattle.clause.specs.Bit.{bit, In}
-use Rattle.clause.specs.Meaning.{Run, PlainTrue, Waits, waited, LetterTrue}
-use Rattle.clause.proofs.Masks.{bit-bit_or, bit_lt, bit_pow, in_pow, in_left, in_right, in_noted, bit_shift, not_in_zero}
+use Rattle.clause.specs.Meaning.{Run, PlainTrue, Waits, waited}
+use Rattle.clause.proofs.Masks.{in_pow, in_left, in_right, in_noted, bit_shift, not_in_zero}
 use Rattle.clause.proofs.Telling.{beq_true, beq_same, same_tests}
 use Rattle.clause.proofs.Truths.{plain_letter, high_letter}
 use Rattle.runs.specs.Source.{Source, end_of}

@@ -1,5 +1,5 @@
 -- What a timetable is made from, and what setting a task does.
-use Rattle.std.specs.Prelude.{◌≡◌, ℕ, ◌+◌, ◌<◌, ◌≤◌, ◌⊎◌, List, set, Some, None, Ok, Err, Option, Result, slice_set}
+use Rattle.std.specs.Prelude.{◌≡◌, ℕ, ◌+◌, ◌<◌, ◌≤◌, ◌⊎◌, List, Some, None, Ok, Err, Option, Result, slice_set}
 use Rattle.clause.specs.declared.refusal.Fault.{Fault}
 use Rattle.clause.specs.declared.refusal.Refusal.TheVariants.{LetterRange, OutOfRange}
 use Rattle.clause.specs.Refusals.{plain}

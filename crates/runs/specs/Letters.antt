@@ -1,5 +1,5 @@
 -- What a run source answers to the question for a letter at a moment.
-use Rattle.std.specs.Prelude.{ℕ, ◌+◌, Bool, cond, Ok, Err, Result, nat_lt}
+use Rattle.std.specs.Prelude.{ℕ, Bool, cond, Ok, Err, Result, nat_lt}
 use Rattle.clause.specs.declared.refusal.Fault.{Fault}
 use Rattle.clause.specs.declared.refusal.Refusal.TheVariants.{LetterRange, OutOfRange}
 use Rattle.clause.specs.Refusals.{plain}

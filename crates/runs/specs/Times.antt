@@ -1,12 +1,12 @@
 -- What a timetable means.
-use Rattle.std.specs.Prelude.{◌≡◌, ℕ, ◌+◌, ◌-◌, ◌*◌, ◌/◌, ◌%◌, ◌<◌, ◌≤◌, Bool, true, false, ◌&&◌, List, Some, None, Option, ◌==◌, nat_le, slice_index_or, refl}
-use Rattle.std.proofs.Common.{sym, ap, ◌∙◌, arith, add-zero, div-add-mod'}
-use Rattle.std.proofs.Math.Nat.{add-mod, mod-mod, add-mul-mod_self_right}
+use Rattle.std.specs.Prelude.{◌≡◌, ℕ, ◌+◌, ◌-◌, ◌*◌, ◌/◌, ◌%◌, ◌≤◌, true, Some, None, Option, ◌==◌, nat_le, slice_index_or, refl}
+use Rattle.std.proofs.Common.{ap, ◌∙◌, arith, div-add-mod'}
+use Rattle.std.proofs.Math.Nat.{add-mul-mod_self_right}
 use Rattle.std.proofs.lemmas.Bool.{le-leb, leb-true, eqb-true, and_parts}
 use Rattle.runs.specs.Source.{Source}
 use Rattle.runs.specs.declared.task.Task.{Task}
 use Rattle.runs.specs.declared.timetable.Timetable.{Timetable}
-use Rattle.runs.specs.Tasks.{due, due_at, covers, Covered}
+use Rattle.runs.specs.Tasks.{due_at, covers}
 
 mod_multiple : (a m p : ℕ) → m % p ≡ 0 → (a + m) % p ≡ a % p
 mod_multiple a m p h = let e : m ≡ m / p * p = omega (arith, div-add-mod' m p) in ap (λ n. (a + n) % p) e ∙ add-mul-mod_self_right a (m / p) p

@@ -1,5 +1,5 @@
 -- A run that is kept.
-use Rattle.std.proofs.Common.{◌≡◌, ℕ, ◌≤◌, ◌⊎◌, List, length, IfOk, Ok, Err, Result, sym, refl, ◌∙◌, subst, ⊎_elim, arith}
+use Rattle.std.proofs.Common.{◌≡◌, ℕ, ◌≤◌, List, length, IfOk, Ok, Err, Result, sym, refl, subst, ⊎_elim, arith}
 use Rattle.std.proofs.lemmas.Bool.{cases_eq}
 use Rattle.clause.specs.declared.refusal.Fault.{Fault}
 use Rattle.clause.specs.declared.syntax.Clause.{Clause}
@@ -11,7 +11,7 @@ use Rattle.case.specs.Verdict.{Shown}
 use Rattle.text.specs.declared.stage.Verdict.{Verdict}
 use Rattle.text.specs.declared.stage.Verdict.TheVariants.{Open, Contradiction}
 use Rattle.text.specs.Reading.{TextRead}
-use Rattle.text.specs.Promise.{written, Agrees, NoRun}
+use Rattle.text.specs.Promise.{Agrees, NoRun}
 use Rattle.runtext.specs.declared.stage.TextRun.{TextRun}
 use Rattle.runtext.specs.Reading.{run_of, RunRead}
 use Rattle.runtext.specs.Judging.{Showing, ShownText, RunJudgedBy, BothRead, KeptBy, NotContradiction}

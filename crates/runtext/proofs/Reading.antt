@@ -1,5 +1,5 @@
 -- Lines of a run text.
-use Rattle.std.proofs.Common.{◌≡◌, ℕ, ◌+◌, ◌<◌, Bool, List, [], ◌∷◌, length, replicate, None, Ok, Err, Result, sym, refl, ap, ◌∙◌, subst, arith}
+use Rattle.std.proofs.Common.{◌≡◌, ℕ, ◌+◌, ◌<◌, Bool, List, [], ◌∷◌, length, replicate, None, Ok, Err, Result, sym, refl, ap, subst, arith}
 use Rattle.clause.specs.declared.refusal.Fault.{Fault}
 use Rattle.clause.specs.declared.refusal.Refusal.TheVariants.{UnknownKey}
 use Rattle.runs.specs.declared.timetable.Timetable.{Timetable}

@@ -1,7 +1,6 @@
 -- What a record of a run text does.
-use Rattle.std.specs.Prelude.{◌≡◌, ℕ, ◌+◌, ◌<◌, ◌≤◌, Bool, true, false, cond, ◌&&◌, ◌⊎◌, replicate, None, Ok, Err, Result, ◌==◌, nat_lt}
+use Rattle.std.specs.Prelude.{◌≡◌, ℕ, ◌+◌, ◌<◌, ◌≤◌, true, false, cond, ◌&&◌, ◌⊎◌, replicate, None, Ok, Err, Result, ◌==◌, nat_lt}
 use Rattle.clause.specs.declared.refusal.Fault.{Fault}
-use Rattle.clause.specs.declared.refusal.Refusal.{Refusal}
 use Rattle.clause.specs.declared.refusal.Refusal.TheVariants.{LetterRange, WrongState, OutOfRange}
 use Rattle.clause.specs.Bit.{bit}
 use Rattle.clause.specs.Refusals.{plain}

@@ -1,20 +1,18 @@
 -- Lines of a text, and what reading them comes to.
-use Rattle.std.proofs.Common.{◌≡◌, ℕ, ◌+◌, ◌-◌, ◌<◌, ◌≤◌, Bool, true, false, cond, eqb, List, [], ◌∷◌, length, take, IfOk, Some, None, Ok, Err, Result, sym, refl, ap, ◌∙◌, subst, arith}
+use Rattle.std.proofs.Common.{◌≡◌, ℕ, ◌+◌, ◌<◌, ◌≤◌, Bool, true, false, List, [], ◌∷◌, length, IfOk, None, Ok, Err, Result, sym, refl, ap, ◌∙◌, subst, arith}
 use Rattle.std.proofs.lemmas.Bool.{cond-false, ne_eqb, eq-eqb, lt-leb}
 use Rattle.clause.specs.declared.refusal.Fault.{Fault}
 use Rattle.clause.specs.declared.refusal.Refusal.TheVariants.{UnknownKey, WrongState}
 use Rattle.clause.specs.Refusals.{plain}
 use Rattle.protocol.specs.State as model
-use Rattle.protocol.specs.Calls.{Call, Answer, number, refused, seal, abandon}
-use Rattle.protocol.specs.Answers.{Answered}
+use Rattle.protocol.specs.Calls.{abandon}
 use Rattle.lines.specs.declared.line.Line.{Line}
-use Rattle.lines.specs.View.{lines_of, BlankFrom}
 use Rattle.case.specs.declared.stage.Intake.{Intake}
 use Rattle.case.specs.declared.stage.Sealed.{Sealed}
 use Rattle.case.specs.declared.stage.OpenLoop.{OpenLoop}
 use Rattle.case.specs.View.{view_intake, view_sealed, view_loop, stage_of}
-use Rattle.case.specs.Calling.{Led, SealedAs}
-use Rattle.case.specs.Looping.{Turned, Abandoned}
+use Rattle.case.specs.Calling.{SealedAs}
+use Rattle.case.specs.Looping.{Turned}
 use Rattle.forms.specs.Cuts.{split}
 use Rattle.forms.proofs.Splits.{split_some}
 use Rattle.records.specs.declared.record.Record.{Record}
@@ -24,8 +22,8 @@ use Rattle.text.specs.declared.stage.Stage.{Stage}
 use Rattle.text.specs.declared.stage.Stage.TheVariants.{Taking, Working, Looping}
 use Rattle.text.specs.declared.stage.Standing.{Standing}
 use Rattle.text.specs.declared.stage.Verdict.{Verdict}
-use Rattle.text.specs.Calls.{view, LedTo, LeadsOn}
-use Rattle.text.specs.Reading.{Found, Reads, ends, stops, goes, placed, verdict, lines, lines_in, LineRead, left, Held, Knows, outcome, IsCase, Comes, found_in, TextRead}
+use Rattle.text.specs.Calls.{view, LedTo}
+use Rattle.text.specs.Reading.{Found, ends, stops, goes, placed, verdict, lines, lines_in, LineRead, left, Held, Knows, Comes, found_in, TextRead}
 use Rattle.text.proofs.Standings.{view_lines, same_number}
 
 -- an empty line has an unknown key

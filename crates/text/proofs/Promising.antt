@@ -1,10 +1,10 @@
 -- An accepted refutation in a text is a contradiction of the clauses that are written there.
-use Rattle.std.proofs.Common.{◌≡◌, ℕ, ◌+◌, ◌-◌, ◌<◌, ◌≤◌, Bool, ◌⊎◌, List, [], ◌∷◌, ◌++◌, length, get_or, IfOk, Some, None, Ok, Err, Result, sym, refl, ap, ◌∙◌, subst, inl, inr, ⊎_elim, arith}
+use Rattle.std.proofs.Common.{◌≡◌, ℕ, ◌+◌, ◌-◌, ◌<◌, ◌≤◌, Bool, List, [], ◌∷◌, ◌++◌, length, IfOk, Some, None, Ok, Err, Result, sym, refl, ap, ◌∙◌, subst, ⊎_elim, arith}
 use Rattle.std.proofs.lemmas.Bool.{cases_lt}
 use Rattle.std.proofs.lemmas.List.{length_push, get_or_append_left, get_or_at, append-nil, append_assoc}
 use Rattle.clause.specs.declared.refusal.Fault.{Fault}
 use Rattle.clause.specs.declared.syntax.Clause.{Clause}
-use Rattle.clause.specs.Meaning.{Run, Keeps}
+use Rattle.clause.specs.Meaning.{Keeps}
 use Rattle.rules.specs.ResolvingSound.{resolving}
 use Rattle.rules.specs.TryingSound.{trying}
 use Rattle.protocol.specs.State as model
@@ -24,8 +24,8 @@ use Rattle.records.specs.Records.{record_of}
 use Rattle.text.specs.declared.stage.Verdict.{Verdict}
 use Rattle.text.specs.declared.stage.Verdict.TheVariants.{Open, Contradiction}
 use Rattle.text.specs.Calls.{Step, listed, guarded}
-use Rattle.text.specs.Reading.{Found, Reads, ends, stops, goes, verdict, lines, Judged, Ending, found, told, outcome, IsCase, Comes}
-use Rattle.text.specs.Promise.{given_by, given_in, givens, written, Core, Promised, Agrees, NoRun}
+use Rattle.text.specs.Reading.{Found, Reads, ends, stops, goes, verdict, Judged, Ending, found, told, Comes}
+use Rattle.text.specs.Promise.{given_by, given_in, givens, Core, Promised, Agrees, NoRun}
 use Rattle.text.proofs.Standings.{at, no_ok}
 
 abbrev Sound : Found → model.State → List ℕ → List Clause → Type 0

@@ -1,21 +1,19 @@
 -- Numbers of lines, and what is known of them.
-use Rattle.std.proofs.Common.{◌≡◌, ℕ, ◌+◌, ◌-◌, ◌<◌, ◌≤◌, Bool, true, false, ltb, ◌⊎◌, List, [], ◌∷◌, ◌++◌, map, length, get_or, take, Some, None, Ok, Err, Option, Result, sym, refl, ap, ◌∙◌, subst, ⊎_elim, arith}
+use Rattle.std.proofs.Common.{◌≡◌, ℕ, ◌+◌, ◌-◌, ◌≤◌, List, [], ◌∷◌, ◌++◌, map, length, take, Some, None, Ok, Err, Option, Result, sym, refl, ap, ◌∙◌, subst, ⊎_elim, arith}
 use Rattle.std.proofs.lemmas.Bool.{cases_eq}
 use Rattle.std.proofs.lemmas.List.{length-map, length-take-le, length-append, length_push}
 use Rattle.clause.specs.declared.refusal.Fault.{Fault}
 use Rattle.clause.specs.declared.syntax.Literal.{Literal}
 use Rattle.clause.specs.declared.syntax.LitSet.{LitSet}
 use Rattle.protocol.specs.State as model
-use Rattle.protocol.specs.Calls.{Call, Answer, number, core, refused, give, seal, infer, wait_line, wait_literal, open_loop, close, abandon, draw, draw_alone, refute}
-use Rattle.protocol.specs.Causes.{NoneOf, causes}
-use Rattle.protocol.specs.Answers.{Answered, added, assumed, nevers}
+use Rattle.protocol.specs.Calls.{Call, Answer, number}
+use Rattle.protocol.specs.Answers.{added, assumed, nevers}
 use Rattle.protocol.proofs.Steps.{not_due}
 use Rattle.clause.specs.declared.refusal.Refusal.TheVariants.{WrongCount}
 use Rattle.protocol.specs.History.{History}
 use Rattle.protocol.proofs.Histories.{holds}
 use Rattle.lines.specs.declared.line.Line.{Line}
 use Rattle.lines.specs.View.{line_of, lines_of}
-use Rattle.case.specs.Calling.{Led}
 use Rattle.case.proofs.Growing.{front_length}
 use Rattle.text.specs.declared.stage.Stage.{Stage}
 use Rattle.text.specs.declared.stage.Stage.TheVariants.{Taking, Working, Looping}

@@ -1,5 +1,5 @@
 -- The call that a record makes, and what it is answered.
-use Rattle.std.specs.Prelude.{◌≡◌, ℕ, min, List, [], ◌∷◌, take, Some, None, Ok, Err, Option, Result}
+use Rattle.std.specs.Prelude.{◌≡◌, ℕ, min, List, [], ◌∷◌, take, Some, None, Err, Option, Result}
 use Rattle.clause.specs.declared.refusal.Fault.{Fault}
 use Rattle.clause.specs.declared.refusal.Refusal.TheVariants.{WrongState}
 use Rattle.clause.specs.declared.syntax.LitSet.{LitSet}

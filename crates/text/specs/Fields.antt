@@ -1,5 +1,5 @@
 -- The field that a call's refusal is about.
-use Rattle.std.specs.Prelude.{ℕ, ◌+◌, Bool, true, false, cond, ◌&&◌, ◌||◌, List, length, Some, None, Option, ◌==◌, nat_le, nat_lt}
+use Rattle.std.specs.Prelude.{ℕ, Bool, true, false, cond, ◌&&◌, ◌||◌, List, length, Some, None, Option, ◌==◌, nat_le, nat_lt}
 use Rattle.clause.specs.declared.refusal.Refusal.{Refusal}
 use Rattle.clause.specs.declared.refusal.Refusal.TheVariants.{WrongSize, TextTooLong, TextEmpty, UnknownKey, FieldCount, FieldForm, WrongState, LetterRange, WrongCount, NoSuchLine, NotInForce, WrongKind, InitialMeetsNext, LacksLiteral, TooManyAtoms, Counterexample, RestingEverywhere, CoverMisfit, LiteralsDiffer, NoRoom, NotEmpty, OutOfRange, RunBreaks}
 use Rattle.clause.specs.declared.syntax.LitSet.{LitSet}

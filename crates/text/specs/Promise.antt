@@ -12,7 +12,6 @@ use Rattle.records.specs.declared.record.Record.TheVariants.{Give, Seal, WaitLin
 use Rattle.records.specs.Records.{record_of}
 use Rattle.text.specs.declared.stage.Verdict.{Verdict}
 use Rattle.text.specs.declared.stage.Verdict.TheVariants.{Open, Contradiction}
-use Rattle.text.specs.Reading.{lines}
 
 abbrev pub given_by : Record → List Clause → List Clause
 given_by (Give c) cs = c ∷ cs

@@ -1,4 +1,4 @@
-use Rattle.std.proofs.Common.{refl, arith}
+use Rattle.std.proofs.Common.{arith}
 use Rattle.lines.specs.View.{lines_of}
 use Rattle.cores.specs.Marks.{marked_to}
 use Rattle.cores.proofs.Coring.{core_is}

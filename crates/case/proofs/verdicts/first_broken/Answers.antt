@@ -1,7 +1,4 @@
-use Rattle.std.proofs.Common.{◌≡◌, ℕ, ◌+◌, sym, ap, ◌∙◌, subst, arith}
-use Rattle.clause.specs.declared.syntax.Clause.{Clause}
-use Rattle.lines.specs.View.{lines_of}
-use Rattle.case.specs.Verdict.{KeptTo}
+use Rattle.std.proofs.Common.{arith}
 use Rattle.case.proofs.Showing.{kept_more, lowest_here, letters_asked, all_lines}
 use Rattle.case.proofs.verdicts.first_broken.Goals as goal
 

@@ -1,4 +1,4 @@
-use Rattle.std.proofs.Common.{◌≡◌, ℕ, ◌+◌, ◌-◌, ◌<◌, ◌≤◌, Bool, true, false, List, length, take, set, replicate, sym, refl, ap, ◌∙◌, subst, arith}
+use Rattle.std.proofs.Common.{◌≡◌, ◌-◌, ◌≤◌, Bool, true, false, List, length, replicate, sym, refl, ap, ◌∙◌, subst, arith}
 use Rattle.protocol.specs.State.{Line}
 use Rattle.std.proofs.lemmas.List.{length-set, length-replicate}
 use Rattle.lines.specs.View.{lines_of}

@@ -1,17 +1,17 @@
-use Rattle.std.proofs.Common.{◌≡◌, ℕ, ◌-◌, ◌≤◌, true, false, List, ◌++◌, length, take, None, Ok, Err, Result, sym, refl, ap, ◌∙◌, subst, inl, inr, arith, rules}
+use Rattle.std.proofs.Common.{◌≡◌, ℕ, ◌-◌, List, ◌++◌, length, take, None, Ok, Err, Result, sym, ap, ◌∙◌, subst, inl, arith, rules}
 use Rattle.std.proofs.lemmas.List.{length-map}
 use Rattle.std.proofs.lemmas.Result.{err_from_is_err_and}
 use Rattle.clause.specs.declared.refusal.Fault.{Fault}
 use Rattle.clause.specs.declared.syntax.Clause.{Clause}
 use Rattle.clause.specs.Sets.{Narrow}
-use Rattle.rules.specs.Books.{Consult, Outcome, gives, refuses, marks_of, conclusion_of, concluded, outcome_of, Masks}
+use Rattle.rules.specs.Books.{Consult, marks_of, conclusion_of, outcome_of, Masks}
 use Rattle.clause.specs.declared.refusal.Refusal.{Refusal}
 use Rattle.protocol.specs.State.{State, clause_at, clauses_at}
 use Rattle.protocol.specs.Calls.{infer}
 use Rattle.protocol.specs.Causes.{First, NoneOf, counted, named, consulted, checks}
 use Rattle.protocol.proofs.Causing.{none_both, first_after, first_left}
 use Rattle.lines.specs.View.{lines_of}
-use Rattle.lines.specs.Named.{at_stage, LoopFrom}
+use Rattle.lines.specs.Named.{at_stage}
 use Rattle.lines.proofs.Placing.{narrow_all}
 use Rattle.drafts.proofs.Drafting.{exit_draft}
 use Rattle.drafts.proofs.Consulting.{at_most_8, not_counted, late_refused, rest_refused, none_consulted}

@@ -1,8 +1,7 @@
-use Rattle.std.proofs.Common.{◌≡◌, ◌⊎◌, sym, refl, ◌∙◌, inl, inr, ⊎_elim}
+use Rattle.std.proofs.Common.{◌⊎◌, sym, refl, ◌∙◌, inl, inr, ⊎_elim}
 use Rattle.clause.specs.declared.syntax.Clause.{Clause}
 use Rattle.clause.specs.declared.refusal.Refusal.TheVariants.{WrongKind, LiteralsDiffer}
 use Rattle.clause.specs.Refusals.{plain}
-use Rattle.clause.specs.Sets.{literal_of}
 use Rattle.protocol.specs.Causes.{NoneOf, never, eventual, NotNever, NotEventuality}
 use Rattle.protocol.proofs.Causing.{not_if}
 use Rattle.drafts.proofs.kinds.check_drawn.Goals as goal

@@ -1,4 +1,4 @@
-use Rattle.std.proofs.Common.{◌≡◌, ◌<◌, ◌≤◌, [], sym, ap, ◌∙◌, subst, arith}
+use Rattle.std.proofs.Common.{◌≤◌, [], sym, ap, ◌∙◌, subst, arith}
 use Rattle.clause.specs.declared.syntax.Clause.{Clause}
 use Rattle.clause.specs.Sets.{Narrow}
 use Rattle.protocol.specs.Answers.{derived}

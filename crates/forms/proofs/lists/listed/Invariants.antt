@@ -1,4 +1,4 @@
-use Rattle.std.proofs.Common.{◌≡◌, ◌≤◌, length}
+use Rattle.std.proofs.Common.{◌≡◌, length}
 use Rattle.forms.specs.Cuts.{split}
 use Rattle.forms.specs.Lists.{all_numbers, nine_of}
 use Rattle.forms.proofs.Listing.{go}

@@ -1,4 +1,4 @@
-use Rattle.std.proofs.Common.{◌≡◌, ◌<◌, ◌≤◌, ◌⊎◌, length, get_or, inl, inr, rules}
+use Rattle.std.proofs.Common.{◌≡◌, ◌<◌, ◌≤◌, length, get_or, inl, inr, rules}
 use Rattle.std.proofs.lemmas.Bool.{ltb-true}
 use Rattle.forms.specs.Cuts.{split}
 use Rattle.forms.specs.Forms.{lead, digits_of, alone}

@@ -1,4 +1,4 @@
-use Rattle.std.proofs.Common.{◌<◌, ◌⊎◌, length, get_or, inl, inr, rules}
+use Rattle.std.proofs.Common.{◌<◌, length, get_or, inl, inr, rules}
 use Rattle.std.proofs.lemmas.Bool.{ltb-true}
 use Rattle.forms.proofs.Leading.{number_zero, number_first, number_bad, number_end, leads_by, rest_within}
 use Rattle.forms.proofs.numbers.lead_number.Goals.{in_default-via-then-text-lt1, in_default-via-else-text-lt1+in_default+then-text-lt48, in_default-via-else-text-lt1+in_default+else-text-lt48+else-text-lt58}

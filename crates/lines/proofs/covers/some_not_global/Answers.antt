@@ -1,4 +1,4 @@
-use Rattle.std.proofs.Common.{ℕ, sym, ap, ◌∙◌, subst, arith}
+use Rattle.std.proofs.Common.{ℕ, sym, subst, arith}
 use Rattle.protocol.specs.State.{Line, clause_at}
 use Rattle.protocol.specs.Causes.{NotGlobal}
 use Rattle.lines.specs.View.{lines_of}

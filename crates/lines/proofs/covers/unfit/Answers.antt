@@ -1,4 +1,4 @@
-use Rattle.std.proofs.Common.{◌≡◌, ℕ, ◌+◌, length, get_or, sym, subst, ⊎_elim, arith, below_more}
+use Rattle.std.proofs.Common.{◌≡◌, ℕ, ◌+◌, get_or, sym, subst, ⊎_elim, arith, below_more}
 use Rattle.clause.specs.Meaning.{none}
 use Rattle.protocol.specs.State.{Line, clause_at}
 use Rattle.protocol.specs.Causes.{Unfit, Fits}

@@ -1,4 +1,4 @@
-use Rattle.std.proofs.Common.{◌≡◌, ℕ, ◌<◌, get_or}
+use Rattle.std.proofs.Common.{ℕ, ◌<◌, get_or}
 use Rattle.clause.specs.Meaning.{none}
 use Rattle.protocol.specs.State.{clause_at}
 use Rattle.protocol.specs.Causes.{Fits}

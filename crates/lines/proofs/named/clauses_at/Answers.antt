@@ -1,6 +1,5 @@
-use Rattle.std.proofs.Common.{◌≡◌, ◌+◌, ◌<◌, ◌≤◌, List, map, length, take, sym, refl, ap, ◌∙◌, subst, arith}
+use Rattle.std.proofs.Common.{◌+◌, length, take, ap, ◌∙◌, arith}
 use Rattle.std.proofs.lemmas.List.{length-set}
-use Rattle.clause.specs.declared.syntax.Clause.{Clause}
 use Rattle.protocol.specs.State.{Line, clause_at}
 use Rattle.lines.specs.View.{lines_of}
 use Rattle.lines.proofs.Citing.{front_more, front_end}

@@ -1,5 +1,5 @@
-use Rattle.std.proofs.Common.{ℕ, sym, refl, ap, ◌∙◌, arith}
-use Rattle.protocol.specs.State.{Line, line_at}
+use Rattle.std.proofs.Common.{sym, ap, ◌∙◌, arith}
+use Rattle.protocol.specs.State.{Line}
 use Rattle.lines.specs.View.{lines_of}
 use Rattle.lines.proofs.Citing.{left_hit, left_in, left_out, left_end, left_whole, whole_left}
 use Rattle.lines.proofs.named.rests_everywhere.Goals as goal

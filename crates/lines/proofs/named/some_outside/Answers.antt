@@ -1,4 +1,4 @@
-use Rattle.std.proofs.Common.{◌≡◌, ℕ, ◌<◌, ◌⊎◌, length, inl, inr, ⊎_elim, arith}
+use Rattle.std.proofs.Common.{◌≡◌, ◌<◌, ◌⊎◌, length, inl, inr, ⊎_elim, arith}
 use Rattle.lines.proofs.Citing.{some_at, none_more, none_all}
 use Rattle.lines.proofs.named.some_outside.Goals as goal
 use Rattle.lines.proofs.named.some_outside.Goals.{then-n-eq0-via-then-n-eq0, then-n-eq0-via-else-n-eq0+then-n-lines}

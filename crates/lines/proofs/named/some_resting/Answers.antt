@@ -1,5 +1,5 @@
-use Rattle.std.proofs.Common.{ℕ, sym, refl, ap, ◌∙◌, arith}
-use Rattle.protocol.specs.State.{Line, line_at}
+use Rattle.std.proofs.Common.{sym, ap, ◌∙◌, arith}
+use Rattle.protocol.specs.State.{Line}
 use Rattle.lines.specs.View.{lines_of}
 use Rattle.lines.proofs.Citing.{resting_hit, resting_miss, resting_end}
 use Rattle.lines.proofs.named.some_resting.Goals as goal

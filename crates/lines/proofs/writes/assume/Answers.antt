@@ -1,13 +1,12 @@
-use Rattle.std.proofs.Common.{◌≡◌, ◌+◌, ◌<◌, ◌≤◌, true, List, [], map, length, get_or, take, sym, refl, ap, ◌∙◌, subst, arith}
+use Rattle.std.proofs.Common.{◌≡◌, ◌+◌, true, List, [], map, get_or, take, sym, ap, ◌∙◌, subst, arith}
 use Rattle.clause.specs.declared.syntax.LitSet.{LitSet}
-use Rattle.clause.specs.declared.syntax.Clause.{Clause}
 use Rattle.clause.specs.declared.syntax.Clause.TheVariants.{Assumption}
 use Rattle.clause.specs.Meaning.{none, just, ◌∪◌}
 use Rattle.clause.specs.Sets.{Narrow}
 use Rattle.protocol.specs.Answers.{assumed}
 use Rattle.protocol.proofs.Narrow.{narrow_assumed}
 use Rattle.lines.specs.declared.line.Line.{Line}
-use Rattle.lines.specs.View.{Written, line_of}
+use Rattle.lines.specs.View.{Written}
 use Rattle.lines.proofs.Guarding.{not_over_at}
 use Rattle.lines.proofs.Writing.{write_more, write_end, written_none}
 use Rattle.lines.proofs.writes.assume.Goals as goal

@@ -1,9 +1,9 @@
-use Rattle.std.proofs.Common.{◌≡◌, ◌+◌, List, map, get_or, take, sym, refl, ap, ◌∙◌, subst, arith}
+use Rattle.std.proofs.Common.{◌+◌, List, map, get_or, take, sym, subst, arith}
 use Rattle.clause.specs.Meaning.{none}
 use Rattle.lines.specs.declared.line.Line.{Line}
 use Rattle.protocol.specs.Answers.{nevers}
 use Rattle.protocol.proofs.Narrow.{narrow_never}
-use Rattle.lines.specs.View.{Written, line_of}
+use Rattle.lines.specs.View.{Written}
 use Rattle.lines.proofs.Guarding.{not_over_at}
 use Rattle.lines.proofs.Writing.{write_more, write_end, written_none}
 use Rattle.lines.proofs.writes.conclude.Goals as goal

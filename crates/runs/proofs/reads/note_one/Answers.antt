@@ -1,4 +1,4 @@
-use Rattle.std.proofs.Common.{◌≡◌, ℕ, ◌-◌, ◌<◌, ◌≤◌, length, take, sym, subst, arith}
+use Rattle.std.proofs.Common.{◌≡◌, ◌-◌, ◌≤◌, length, take, subst, arith}
 use Rattle.runs.specs.Source.{end_of}
 use Rattle.runs.specs.Moments.{LastTrue}
 use Rattle.runs.proofs.Turns.{one_more}

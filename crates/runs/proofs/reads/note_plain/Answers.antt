@@ -1,4 +1,4 @@
-use Rattle.std.proofs.Common.{◌≡◌, ℕ, List, get_or, sym, ap, ◌∙◌, subst, arith}
+use Rattle.std.proofs.Common.{◌≡◌, ℕ, List, get_or, ap, ◌∙◌, arith}
 use Rattle.runs.specs.Moments.{seen}
 use Rattle.runs.proofs.Seeing.{seen_none, seen_hit, seen_miss}
 use Rattle.runs.proofs.reads.note_plain.Goals as goal

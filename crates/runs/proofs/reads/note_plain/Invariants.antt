@@ -1,4 +1,4 @@
-use Rattle.std.proofs.Common.{◌≡◌, ℕ, ◌<◌, length, get_or}
+use Rattle.std.proofs.Common.{◌≡◌, ℕ, ◌<◌, get_or}
 use Rattle.runs.specs.Source.{end_of}
 use Rattle.runs.specs.Moments.{seen}
 use Rattle.runs.proofs.reads.note_plain.Given as goal

@@ -1,4 +1,4 @@
-use Rattle.std.proofs.Common.{◌≡◌, ℕ, ◌+◌, ◌<◌, Bool, true, List, [], ◌∷◌, length, Err, sym, subst, arith, rules}
+use Rattle.std.proofs.Common.{◌≡◌, ℕ, ◌+◌, ◌<◌, Bool, true, List, ◌∷◌, length, Err, sym, subst, arith, rules}
 use Rattle.forms.specs.Cuts.{split}
 use Rattle.text.specs.Reading.{lines}
 use Rattle.text.proofs.Endings.{made_is, lines_none, lines_more}

@@ -1,4 +1,4 @@
-use Rattle.std.proofs.Common.{ℕ, ◌+◌, ◌*◌, ◌≤◌, length, Result}
+use Rattle.std.proofs.Common.{◌+◌, ◌*◌, ◌≤◌, length, Result}
 use Rattle.clause.specs.declared.refusal.Fault.{Fault}
 use Rattle.text.specs.Reading.{lines}
 use Rattle.runtext.specs.declared.stage.RunStage.TheVariants.{Start}

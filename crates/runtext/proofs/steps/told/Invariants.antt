@@ -1,4 +1,4 @@
-use Rattle.std.proofs.Common.{◌≡◌, ℕ, ◌+◌, ◌<◌, cond, ◌&&◌, eqb, ltb}
+use Rattle.std.proofs.Common.{◌≡◌, ℕ, cond, ◌&&◌, eqb, ltb}
 use Rattle.clause.specs.Bit.{bit}
 use Rattle.runs.specs.Table.{letter_in}
 use Rattle.runtext.proofs.steps.told.Given as goal

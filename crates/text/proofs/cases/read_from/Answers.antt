@@ -1,6 +1,6 @@
-use Rattle.std.proofs.Common.{◌≡◌, ℕ, ◌+◌, ◌<◌, ◌≤◌, Bool, true, List, [], ◌∷◌, length, None, Err, sym, refl, ap, subst, arith, rules}
+use Rattle.std.proofs.Common.{◌≡◌, ℕ, ◌+◌, ◌<◌, Bool, true, List, [], ◌∷◌, length, None, Err, sym, refl, ap, subst, arith, rules}
 use Rattle.forms.specs.Cuts.{split}
-use Rattle.protocol.specs.State.{State, last, fresh}
+use Rattle.protocol.specs.State.{State, last}
 use Rattle.text.specs.Calls.{view}
 use Rattle.text.specs.declared.stage.Standing.{Standing}
 use Rattle.text.specs.Reading.{Found, lines, Comes, Knows}

@@ -1,5 +1,4 @@
 use Rattle.std.proofs.Common.{ap, ◌∙◌}
-use Rattle.clause.specs.declared.refusal.Fault.{Fault}
 use Rattle.text.specs.Reading.{placed}
 use Rattle.text.proofs.Endings.{finish_taking, finish_working, finish_looping}
 use Rattle.text.proofs.ends.finish.Goals as goal

@@ -1,4 +1,4 @@
-use Rattle.std.proofs.Common.{◌≡◌, Result, sym, ◌∙◌, subst}
+use Rattle.std.proofs.Common.{Result, sym, ◌∙◌, subst}
 use Rattle.clause.specs.declared.refusal.Fault.{Fault}
 use Rattle.records.specs.declared.record.Record.{Record}
 use Rattle.text.specs.Calls.{view}

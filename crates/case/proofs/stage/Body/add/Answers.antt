@@ -1,4 +1,4 @@
-use Rattle.std.proofs.Common.{◌≡◌, Result, sym, refl, subst, arith}
+use Rattle.std.proofs.Common.{Result, refl, subst, arith}
 use Rattle.clause.specs.declared.refusal.Fault.{Fault}
 use Rattle.lines.specs.declared.line.Line.{Line}
 use Rattle.drafts.specs.Drafts.{Drafted}

@@ -1,4 +1,4 @@
-use Rattle.std.proofs.Common.{◌≡◌, length, refl, inl, arith}
+use Rattle.std.proofs.Common.{inl, arith}
 use Rattle.protocol.specs.Calls.{give}
 use Rattle.case.specs.View.{view_intake}
 use Rattle.case.proofs.Growing.{wrong_size, refused_call}

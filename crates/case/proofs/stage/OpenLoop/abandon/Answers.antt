@@ -1,4 +1,4 @@
-use Rattle.std.proofs.Common.{◌≡◌, length, refl, arith}
+use Rattle.std.proofs.Common.{refl, arith}
 use Rattle.protocol.specs.Calls.{abandon}
 use Rattle.case.specs.View.{view_sealed, view_loop}
 use Rattle.case.proofs.Turning.{turned_wrong, abandoned_ok}

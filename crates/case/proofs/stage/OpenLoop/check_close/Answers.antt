@@ -1,13 +1,12 @@
-use Rattle.std.proofs.Common.{◌≡◌, ℕ, ◌+◌, ◌<◌, ◌≤◌, List, [], ◌∷◌, ◌++◌, length, Result, sym, refl, ap, ◌∙◌, subst, inl, inr, arith}
+use Rattle.std.proofs.Common.{◌≡◌, ℕ, List, length, Result, sym, ap, subst, arith}
 use Rattle.std.proofs.lemmas.Result.{err_from_is_err_and}
 use Rattle.clause.specs.declared.refusal.Fault.{Fault}
-use Rattle.clause.specs.declared.refusal.Refusal.TheVariants.{WrongCount, WrongKind, NoRoom}
 use Rattle.clause.specs.declared.syntax.LitSet.{LitSet}
 use Rattle.protocol.specs.State as model
 use Rattle.protocol.specs.Calls.{close}
 use Rattle.protocol.specs.Causes.{First, causes, Unfit}
 use Rattle.lines.specs.View.{lines_of}
-use Rattle.lines.specs.Named.{at_stage, UnfitPlace}
+use Rattle.lines.specs.Named.{at_stage}
 use Rattle.case.specs.View.{stage_of, guards_in}
 use Rattle.case.specs.Looping.{CloseChecked}
 use Rattle.case.proofs.Closing.{close_lines, close_kind, close_misfit, close_full, close_none}

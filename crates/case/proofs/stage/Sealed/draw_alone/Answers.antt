@@ -1,4 +1,4 @@
-use Rattle.std.proofs.Common.{◌≡◌, length, take, refl, arith}
+use Rattle.std.proofs.Common.{◌≡◌, length, arith}
 use Rattle.protocol.specs.Calls.{draw_alone}
 use Rattle.case.specs.View.{view_sealed}
 use Rattle.case.proofs.Growing.{wrong_size, sealed_adds, sealed_draft}

@@ -1,4 +1,4 @@
-use Rattle.std.proofs.Common.{◌≡◌, length, take, refl, arith}
+use Rattle.std.proofs.Common.{◌≡◌, length, arith}
 use Rattle.protocol.specs.Calls.{infer}
 use Rattle.protocol.specs.State.{sealed}
 use Rattle.case.specs.View.{view_sealed}

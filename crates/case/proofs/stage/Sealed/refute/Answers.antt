@@ -1,4 +1,4 @@
-use Rattle.std.proofs.Common.{◌≡◌, length, refl, arith}
+use Rattle.std.proofs.Common.{refl, arith}
 use Rattle.case.proofs.Refuting.{refute_wrong, refute_size, refute_err, refute_ok}
 use Rattle.case.proofs.stage.Sealed.refute.Goals as goal
 

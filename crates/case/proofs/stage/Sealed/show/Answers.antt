@@ -1,4 +1,4 @@
-use Rattle.std.proofs.Common.{◌≡◌, ℕ, ◌-◌, List, length, take, Some, None, Ok, Err, Option, sym, refl, ap, ◌∙◌, subst, arith}
+use Rattle.std.proofs.Common.{◌≡◌, ℕ, ◌-◌, List, length, take, Some, None, Ok, Err, Option, subst, arith}
 use Rattle.clause.specs.Meaning.{Run}
 use Rattle.lines.specs.declared.line.Line.{Line}
 use Rattle.lines.specs.View.{lines_of}

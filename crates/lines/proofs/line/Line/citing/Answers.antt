@@ -1,4 +1,4 @@
-use Rattle.std.proofs.Common.{◌≡◌, ◌≤◌, length, refl, ap, arith}
+use Rattle.std.proofs.Common.{◌≤◌, length, arith}
 use Rattle.lines.proofs.Placing.{front_is, tidy_is}
 use Rattle.lines.proofs.line.Line.citing.Goals as goal
 

@@ -1,4 +1,4 @@
-use Rattle.std.proofs.Common.{◌≡◌, ℕ, ◌-◌, ◌<◌, ◌≤◌, List, length, get_or, take, sym, ap, ◌∙◌, subst, arith}
+use Rattle.std.proofs.Common.{◌≡◌, ℕ, ◌-◌, ◌≤◌, length, take, sym, subst, arith}
 use Rattle.clause.specs.Bit.{In}
 use Rattle.clause.specs.Sets.{Narrow}
 use Rattle.runs.specs.Source.{Source, end_of}
@@ -6,7 +6,7 @@ use Rattle.runs.specs.Breaks.{FirstBreak}
 use Rattle.runs.specs.Moments.{World, Judged, Read, asks}
 use Rattle.runs.proofs.Turns.{part_world}
 use Rattle.runs.proofs.Judging.{judged_first}
-use Rattle.std.proofs.lemmas.List.{length-take-le, get_or-take}
+use Rattle.std.proofs.lemmas.List.{length-take-le}
 use Rattle.runs.proofs.moments.Moments.first_break.Goals as goal
 
 told_is : (c : goal.After-judge) → Judged (take c.args.self.now.end c.args.self.now.worlds) c.args.self.now.lead c.args.clause c.judge.result

@@ -1,4 +1,4 @@
-use Rattle.std.proofs.Common.{◌≡◌, refl, arith}
+use Rattle.std.proofs.Common.{refl, arith}
 use Rattle.runs.proofs.Changing.{always}
 use Rattle.runs.proofs.Seeing.{below_plain, world_is}
 use Rattle.runs.proofs.moments.Moments.read.Goals as goal

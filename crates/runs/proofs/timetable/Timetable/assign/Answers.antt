@@ -1,4 +1,4 @@
-use Rattle.std.proofs.Common.{refl, inl, inr}
+use Rattle.std.proofs.Common.{refl, inr}
 use Rattle.runs.proofs.timetable.Timetable.assign.Goals as goal
 
 pub returns-in-None : goal.returns-in-None

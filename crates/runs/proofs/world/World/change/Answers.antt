@@ -1,4 +1,4 @@
-use Rattle.std.proofs.Common.{◌≡◌, ℕ, Bool, cond, eqb, sym, ap, ◌∙◌}
+use Rattle.std.proofs.Common.{Bool, cond, eqb, sym, ap, ◌∙◌}
 use lib.Bits.{bit_and, bit_or, bit_xor}
 use Rattle.clause.specs.Bit.{bit}
 use Rattle.runs.proofs.Changing.{with_letter, without_letter}
