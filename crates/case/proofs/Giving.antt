@@ -1,6 +1,6 @@
 -- What the intake's calls are in the protocol.
 use Rattle.std.proofs.Common.{◌≡◌, ℕ, zero, suc, ◌+◌, ◌-◌, ◌≤◌, List, [], ◌∷◌, ◌++◌, length, take, drop, replicate, Ok, Err, Result, sym, ap, ◌∙◌, subst, inl, inr, arith}
-use Rattle.std.specs.List.{AllByRecursion as All}
+use Rattle.std.specs.List.{AllByRecursion}
 use Rattle.std.proofs.lemmas.List.{length-take-le}
 use Rattle.clause.specs.declared.refusal.Fault.{Fault}
 use Rattle.clause.specs.declared.refusal.Refusal.TheVariants.{LetterRange, NoRoom}
@@ -19,13 +19,13 @@ use Rattle.case.specs.View.{front, view_intake, view_sealed}
 use Rattle.case.specs.Calling.{answer_of, GivenToo, Called, SealedAs}
 use Rattle.case.proofs.Growing.{front_length, new_lines, blank_after, set_written, leads, refused_call}
 
-all_same : {X : Type 0} (P : X → Type 0) (n : ℕ) (x : X) (ys : List X) → P x → All P ys → All P (replicate n x ++ ys)
+all_same : {X : Type 0} (P : X → Type 0) (n : ℕ) (x : X) (ys : List X) → P x → AllByRecursion P ys → AllByRecursion P (replicate n x ++ ys)
 all_same P zero x ys p q = q
 all_same P (suc n) x ys p q = (p, all_same P n x ys p q)
 
 -- where the places from e on were blank, those from n on are now
 pub blanked_from : (n e : ℕ) (t t' : List Line) → n ≤ length t → Blanked n e t t' → BlankFrom e t → BlankFrom n t'
-blanked_from n e t t' h b z = subst (All IsBlank) (sym (new_lines n (take n t) (replicate (e - n) b.place ++ drop e t) t' (length-take-le n t h) b.table_is)) (all_same IsBlank (e - n) b.place (drop e t) b.is_blank z)
+blanked_from n e t t' h b z = subst (AllByRecursion IsBlank) (sym (new_lines n (take n t) (replicate (e - n) b.place ++ drop e t) t' (length-take-le n t h) b.table_is)) (all_same IsBlank (e - n) b.place (drop e t) b.is_blank z)
 
 module _ (s : Intake) (t : List Line) (long : length t ≡ 1000) where
   given_is : model.last (view_intake s t) ≡ s.given

@@ -1,6 +1,6 @@
 -- A table and its state grow by the lines that are written.
 use Rattle.std.proofs.Common.{◌≡◌, ℕ, zero, suc, ◌+◌, ◌<◌, ◌≤◌, leb, List, [], ◌∷◌, ◌++◌, length, take, drop, set, Ok, Err, Result, sym, refl, ap, ◌∙◌, subst, inl, arith}
-use Rattle.std.specs.List.{AllByRecursion as All}
+use Rattle.std.specs.List.{AllByRecursion}
 use Rattle.std.proofs.lemmas.List.{append_assoc, length-append, length-map, length-take-le, drop-drop}
 use Rattle.clause.specs.declared.refusal.Fault.{Fault}
 use Rattle.clause.specs.declared.refusal.Refusal.TheVariants.{NoRoom, WrongSize}
@@ -34,7 +34,7 @@ drop_front (x ∷ a) b = drop_front a b
 pub new_lines : {X : Type 0} (n : ℕ) (a b c : List X) → length a ≡ n → c ≡ a ++ b → drop n c ≡ b
 new_lines n a b c e q = ap (drop n) q ∙ ap (λ m. drop m (a ++ b)) (sym e) ∙ drop_front a b
 
-drop_more_all : {X : Type 0} (P : X → Type 0) (m : ℕ) (xs : List X) → All P xs → All P (drop m xs)
+drop_more_all : {X : Type 0} (P : X → Type 0) (m : ℕ) (xs : List X) → AllByRecursion P xs → AllByRecursion P (drop m xs)
 drop_more_all P zero xs a = a
 drop_more_all P (suc m) [] a = tt
 drop_more_all P (suc m) (x ∷ xs) a = drop_more_all P m xs a.1
@@ -48,7 +48,7 @@ written_tail n t ms t' h w =
     new_lines (n + length ms) (take n t ++ xs) (drop (n + length xs) t) t' f (w.table_is ∙ sym (append_assoc (take n t) xs _)) ∙ ap (λ j. drop (n + j) t) l
 
 pub blank_after : (n : ℕ) (t : List Line) (ms : List model.Line) (t' : List Line) → n ≤ length t → Written n t ms t' → BlankFrom n t → BlankFrom (n + length ms) t'
-blank_after n t ms t' h w b = subst (All IsBlank) (drop-drop (length ms) n t ∙ sym (written_tail n t ms t' h w)) (drop_more_all IsBlank (length ms) (drop n t) b)
+blank_after n t ms t' h w b = subst (AllByRecursion IsBlank) (drop-drop (length ms) n t ∙ sym (written_tail n t ms t' h w)) (drop_more_all IsBlank (length ms) (drop n t) b)
 
 -- one place set
 pub set_written : (n : ℕ) (t : List Line) (x : Line) → n < length t → Tidy x → Written n t (line_of x ∷ []) (set t n x)

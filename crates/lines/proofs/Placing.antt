@@ -1,7 +1,7 @@
 -- Places as lines, and numbers copied in front of zeros.
 use Rattle.std.proofs.Common.{◌≡◌, ℕ, zero, suc, ◌+◌, ◌-◌, ◌<◌, ◌≤◌, List, [], ◌∷◌, ◌++◌, length, get_or, take, set, replicate, sym, refl, ap, ◌∙◌, arith}
 use Rattle.std.proofs.lemmas.List.{get_or-map, get_or_past, length-map, length-take-le, take_more, take_all, take-append-le}
-use Rattle.std.specs.List.{AllByRecursion as All}
+use Rattle.std.specs.List.{AllByRecursion}
 use Rattle.clause.specs.Sets.{Narrow}
 use Rattle.protocol.specs.State as model
 use Rattle.protocol.proofs.Narrow.{under_none}
@@ -50,6 +50,6 @@ narrow_get (x ∷ t) (suc k) = narrow_get t k
 pub narrow_at : (t : List Line) (n : ℕ) → Narrow (model.clause_at (lines_of t) n)
 narrow_at t n = narrow_get t (n - 1)
 
-pub narrow_all : (t : List Line) (ns : List ℕ) → All Narrow (model.clauses_at (lines_of t) ns)
+pub narrow_all : (t : List Line) (ns : List ℕ) → AllByRecursion Narrow (model.clauses_at (lines_of t) ns)
 narrow_all t [] = tt
 narrow_all t (n ∷ ns) = (narrow_at t n, narrow_all t ns)

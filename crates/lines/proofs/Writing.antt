@@ -1,6 +1,6 @@
 -- Places written one after another.
 use Rattle.std.proofs.Common.{◌≡◌, ℕ, zero, suc, ◌+◌, ◌-◌, ◌<◌, ◌≤◌, List, [], ◌∷◌, ◌++◌, map, length, get_or, take, drop, set, replicate, sym, refl, ap, ◌∙◌, subst, arith}
-use Rattle.std.specs.List.{AllByRecursion as All}
+use Rattle.std.specs.List.{AllByRecursion}
 use Rattle.std.proofs.lemmas.List.{append_assoc, length-append, length-map, length_push, length-take-le, map_more, take_all, take-append-drop, take-append-le, drop_more, map-append, length-replicate}
 use Rattle.clause.specs.declared.syntax.LitSet.{LitSet}
 use Rattle.clause.specs.Meaning.{none}
@@ -27,7 +27,7 @@ module _ {X : Type 0} (t a xs : List X) (n : ℕ) (y d : X) where
       ∙ ap (λ zs. take n t ++ zs) (sym (append_assoc xs (y ∷ []) (drop (m + 1) t)))
       ∙ ap (λ j. take n t ++ ((xs ++ (y ∷ [])) ++ drop j t)) (sym e)
 
-all_push : {X : Type 0} (P : X → Type 0) (xs : List X) (y : X) → All P xs → P y → All P (xs ++ (y ∷ []))
+all_push : {X : Type 0} (P : X → Type 0) (xs : List X) (y : X) → AllByRecursion P xs → P y → AllByRecursion P (xs ++ (y ∷ []))
 all_push P [] y a p = (p, tt)
 all_push P (x ∷ xs) y a p = (a.0, all_push P xs y a.1 p)
 

@@ -1,6 +1,6 @@
 -- A place of the table as a line.
 use Rattle.std.specs.Prelude.{◌≡◌, ℕ, ◌+◌, ◌-◌, false, List, ◌++◌, map, length, take, drop, replicate}
-use Rattle.std.specs.List.{AllByRecursion as All}
+use Rattle.std.specs.List.{AllByRecursion}
 use Rattle.clause.specs.declared.syntax.Clause.TheVariants.{Initial}
 use Rattle.clause.specs.Meaning.{none}
 use Rattle.protocol.specs.State as model
@@ -24,7 +24,7 @@ IsBlank x = (x.clause ≡ Initial none) × (x.cites ≡ replicate 8 0) × (x.cit
 pub record Written (n : ℕ) (t : List Line) (ms : List model.Line) (t' : List Line) : Type 0 where
   pub places : List Line
   pub lines_are : lines_of places ≡ ms
-  pub tidy : All Tidy places
+  pub tidy : AllByRecursion Tidy places
   pub table_is : t' ≡ take n t ++ (places ++ drop (n + length places) t)
 
 -- the places from n up to e are blank, all else is as it was
@@ -35,4 +35,4 @@ pub record Blanked (n e : ℕ) (t t' : List Line) : Type 0 where
 
 -- the places from n on are blank
 abbrev pub BlankFrom : ℕ → List Line → Type 0
-BlankFrom n t = All IsBlank (drop n t)
+BlankFrom n t = AllByRecursion IsBlank (drop n t)

@@ -3,7 +3,7 @@ use Rattle.std.proofs.Common.{◌≡◌, ℕ, ◌+◌, ◌<◌, ◌≤◌, true,
 use Rattle.std.proofs.lemmas.Bool.{cases_lt}
 use Rattle.std.proofs.lemmas.List.{length-append, length_push}
 use Rattle.std.proofs.ByRecursion.{All-weaker}
-use Rattle.std.specs.List.{AllByRecursion as All}
+use Rattle.std.specs.List.{AllByRecursion}
 use Rattle.clause.specs.Meaning.{Run, Unbroken, Keeps}
 use Rattle.clause.specs.Sets.{Over, Narrow, literal_of}
 use Rattle.protocol.proofs.Narrow.{small_of}
@@ -33,28 +33,28 @@ pub record Inv (st : Stage) (g : ℕ) (ls : List Line) : Type 0 where
   pub sound : (n : ℕ) → 1 ≤ n → n ≤ length ls → (line_at ls n).resting ≡ false → (r : Run) → RestsOn r g ls n → Keeps r (clause_at ls n)
   pub sound_here : (n : ℕ) → 1 ≤ n → n ≤ length ls → (line_at ls n).resting ≡ true → in_loop st n ≡ true → (r : Run) (i : ℕ) → RestsOn r g ls n → Stands r i st → Unbroken r i (clause_at ls n)
   pub loop_small : (loop_literal st).letter ≤ 19
-  pub loop_narrow : All (λ x. ¬ Over 59 x) (guards_of st)
+  pub loop_narrow : AllByRecursion (λ x. ¬ Over 59 x) (guards_of st)
   pub placed : Placed st g (length ls)
 
 -- what a line must be to be added at a stage
 pub record New (st : Stage) (g : ℕ) (ls : List Line) (x : Line) : Type 0 where
-  pub low : All (λ m. (1 ≤ m) × (m ≤ length ls)) x.cites
+  pub low : AllByRecursion (λ m. (1 ≤ m) × (m ≤ length ls)) x.cites
   pub narrow : Narrow x.clause
-  pub sound : x.resting ≡ false → (r : Run) → All (RestsOn r g ls) x.cites → Keeps r x.clause
-  pub sound_here : x.resting ≡ true → (r : Run) (i : ℕ) → All (RestsOn r g ls) x.cites → Stands r i st → Unbroken r i x.clause
+  pub sound : x.resting ≡ false → (r : Run) → AllByRecursion (RestsOn r g ls) x.cites → Keeps r x.clause
+  pub sound_here : x.resting ≡ true → (r : Run) (i : ℕ) → AllByRecursion (RestsOn r g ls) x.cites → Stands r i st → Unbroken r i x.clause
 
 -- from st to st' with the lines xs added
-module _ (st st' : Stage) (g : ℕ) (ls xs : List Line) (inv : Inv st g ls) (new : All (New st' g ls) xs) where
+module _ (st st' : Stage) (g : ℕ) (ls xs : List Line) (inv : Inv st g ls) (new : AllByRecursion (New st' g ls) xs) where
   at_new : (n : ℕ) → length ls < n → n ≤ length (ls ++ xs) → New st' g ls (line_at (ls ++ xs) n)
   at_new n h k = new_line ls xs (New st' g ls) n h k new
 
-  rests_new : (r : Run) (n : ℕ) → length ls < n → n ≤ length (ls ++ xs) → RestsOn r g (ls ++ xs) n → All (RestsOn r g ls) (line_at (ls ++ xs) n).cites
+  rests_new : (r : Run) (n : ℕ) → length ls < n → n ≤ length (ls ++ xs) → RestsOn r g (ls ++ xs) n → AllByRecursion (RestsOn r g ls) (line_at (ls ++ xs) n).cites
   rests_new r n h k s = All-weaker _ _ (λ m. rests_old r g ls xs m inv.fits) _ (rests_cited r g (ls ++ xs) n (All-weaker _ _ (λ m b. omega arith) _ (at_new n h k).low) s)
 
   low_more : Low (ls ++ xs)
   low_more n h k = ⊎_elim
       (λ q. All-weaker _ _ (λ m b. (b.0, omega arith)) _ (at_new n q k).low)
-      (λ q. subst (λ x. All (λ m. (1 ≤ m) × (m < n)) x.cites) (sym (old_line ls xs n h q)) (inv.low n h q))
+      (λ q. subst (λ x. AllByRecursion (λ m. (1 ≤ m) × (m < n)) x.cites) (sym (old_line ls xs n h q)) (inv.low n h q))
       (cases_lt (length ls) n)
 
   narrow_more : (n : ℕ) → 1 ≤ n → n ≤ length (ls ++ xs) → Narrow (clause_at (ls ++ xs) n)
@@ -79,7 +79,7 @@ module _ (st st' : Stage) (g : ℕ) (ls xs : List Line) (inv : Inv st g ls) (new
 
   pub extended : ¬ IsIntake st'
       → ((n : ℕ) → n ≤ length ls → in_loop st' n ≡ true → (in_loop st n ≡ true) × ((r : Run) (i : ℕ) → Stands r i st' → Stands r i st))
-      → (loop_literal st').letter ≤ 19 → All (λ x. ¬ Over 59 x) (guards_of st') → Placed st' g (length (ls ++ xs)) → Inv st' g (ls ++ xs)
+      → (loop_literal st').letter ≤ 19 → AllByRecursion (λ x. ¬ Over 59 x) (guards_of st') → Placed st' g (length (ls ++ xs)) → Inv st' g (ls ++ xs)
   extended late older lit gu pl = record {
     fits = omega (arith, length-append ls xs, inv.fits);
     all_given = λ y. absurd (late y);

@@ -1,7 +1,7 @@
 -- Why each rule is sound of every run.
 use Rattle.std.proofs.Common.{◌≡◌, ℕ, zero, suc, ◌+◌, ◌-◌, ◌≤◌, List, [], ◌∷◌, arith}
 use Rattle.std.proofs.ByRecursion.{All-weaker}
-use Rattle.std.specs.List.{AllByRecursion as All}
+use Rattle.std.specs.List.{AllByRecursion}
 use Rattle.clause.specs.Sets.{waits_set, waits_not_set}
 use Rattle.clause.proofs.Truths.{untrue_left, untrue_right, untrue_just, untrue_waits, untrue_waits_not, later}
 use Rattle.clause.specs.Meaning.{Run, PlainTrue, Untrue, Unbroken, Keeps, none, just, ◌∪◌}
@@ -40,16 +40,16 @@ draw_alone_law r g l h kn i b =
 
 -- the loop rule: where a guard of the loop is untrue, not all of the loop's assumptions stand
 abbrev pub Stand : Run → ℕ → Literal → List LitSet → Type 0
-Stand r i l gs = All (λ g. Unbroken r i (Assumption (g ∪ just l))) gs
+Stand r i l gs = AllByRecursion (λ g. Unbroken r i (Assumption (g ∪ just l))) gs
 
 abbrev pub Covered : Run → Literal → List LitSet → LitSet → Type 0
 Covered r l gs g = (i : ℕ) → Untrue r i g → ¬ Stand r i l gs
 
-all_of : {X : Type 0} (P : X → Type 0) → ((x : X) → P x) → (xs : List X) → All P xs
+all_of : {X : Type 0} (P : X → Type 0) → ((x : X) → P x) → (xs : List X) → AllByRecursion P xs
 all_of P f [] = tt
 all_of P f (x ∷ xs) = (f x, all_of P f xs)
 
-away : (r : Run) (l : Literal) → l.letter ≤ 19 → (gs : List LitSet) → All (Covered r l gs) gs → (d : ℕ) → All (λ g. (i : ℕ) → Untrue r i g → ¬ PlainTrue r (i + 1 + d) l) gs
+away : (r : Run) (l : Literal) → l.letter ≤ 19 → (gs : List LitSet) → AllByRecursion (Covered r l gs) gs → (d : ℕ) → AllByRecursion (λ g. (i : ℕ) → Untrue r i g → ¬ PlainTrue r (i + 1 + d) l) gs
 away r l h gs cs zero = All-weaker _ _ (λ g c i u p. c i u (all_of _ (λ g' b. untrue_just r (i + 1) l h (untrue_right r (i + 1) g' (just l) b) (rw (← at_zero i) p)) gs)) gs cs
   where
     at_zero : (i : ℕ) → i + 1 + 0 ≡ i + 1
@@ -59,7 +59,7 @@ away r l h gs cs (suc d) = All-weaker _ _ (λ g c i u p. c i u (All-weaker _ _ (
     at_suc : (i : ℕ) → i + 1 + suc d ≡ i + 1 + 1 + d
     at_suc i = omega arith
 
-pub close_law : (r : Run) (l : Literal) → l.letter ≤ 19 → (gs : List LitSet) → All (Covered r l gs) gs → All (λ g. Keeps r (Never g l)) gs
+pub close_law : (r : Run) (l : Literal) → l.letter ≤ 19 → (gs : List LitSet) → AllByRecursion (Covered r l gs) gs → AllByRecursion (λ g. Keeps r (Never g l)) gs
 close_law r l h gs cs = all_of_all gs (away r l h gs cs)
   where
     one : (g : LitSet) → ((d i : ℕ) → Untrue r i g → ¬ PlainTrue r (i + 1 + d) l) → Keeps r (Never g l)
@@ -68,6 +68,6 @@ close_law r l h gs cs = all_of_all gs (away r l h gs cs)
         let e : i + 1 + (j - (i + 1)) ≡ j = omega arith in
         f (j - (i + 1)) i b.0 (rw e b.1.2)
 
-    all_of_all : (xs : List LitSet) → ((d : ℕ) → All (λ g. (i : ℕ) → Untrue r i g → ¬ PlainTrue r (i + 1 + d) l) xs) → All (λ g. Keeps r (Never g l)) xs
+    all_of_all : (xs : List LitSet) → ((d : ℕ) → AllByRecursion (λ g. (i : ℕ) → Untrue r i g → ¬ PlainTrue r (i + 1 + d) l) xs) → AllByRecursion (λ g. Keeps r (Never g l)) xs
     all_of_all [] f = tt
     all_of_all (x ∷ xs) f = (one x (λ d. (f d).0), all_of_all xs (λ d. (f d).1))

@@ -2,7 +2,7 @@
 use Rattle.std.proofs.Common.{◌≡◌, ℕ, ◌+◌, ◌<◌, ◌≤◌, true, false, List, [], ◌∷◌, map, length, sym, refl, subst, inl, inr, ⊎_elim, arith}
 use Rattle.std.proofs.lemmas.Bool.{cases_Bool, true≢false, false≢true}
 use Rattle.std.proofs.ByRecursion.{All-weaker}
-use Rattle.std.specs.List.{AllByRecursion as All}
+use Rattle.std.specs.List.{AllByRecursion}
 use Rattle.clause.proofs.Truths.{untrue_none, untrue_within}
 use Rattle.clause.specs.Meaning.{Run, Untrue, Broken, Unbroken, Keeps, Within, none, just, ◌∪◌}
 use Rattle.clause.specs.Sets.{Over, Narrow, literal_of, now_of, next_of, waits_set, waits_not_set}
@@ -32,7 +32,7 @@ inside st g ls n h =
     let b : ¬ (length ls < n) = λ q. h (inr q) in
     (omega arith, omega arith)
 
-pub insides : (st : Stage) (g : ℕ) (ls : List Line) (ns : List ℕ) → ¬ SomeIn (Outside (record { stage = st; given = g; lines = ls })) ns → All (Inside ls) ns
+pub insides : (st : Stage) (g : ℕ) (ls : List Line) (ns : List ℕ) → ¬ SomeIn (Outside (record { stage = st; given = g; lines = ls })) ns → AllByRecursion (Inside ls) ns
 insides st g ls ns h = All-weaker _ _ (λ n. inside st g ls n) ns (none_in _ ns h)
 
 module _ (st : Stage) (g : ℕ) (ls : List Line) (inv : Inv st g ls) where
@@ -47,7 +47,7 @@ module _ (st : Stage) (g : ℕ) (ls : List Line) (inv : Inv st g ls) where
   Fit : Run → ℕ → ℕ → Type 0
   Fit r i n = Unbroken r i (clause_at ls n) × ((line_at ls n).resting ≡ false → Keeps r (clause_at ls n))
 
-  used : (r : Run) (i : ℕ) (ns : List ℕ) (ms : List Mark) → All (Fit r i) ns → ¬ RestEverywhere ls ns ms → Used r i (clauses_at ls ns) ms
+  used : (r : Run) (i : ℕ) (ns : List ℕ) (ms : List Mark) → AllByRecursion (Fit r i) ns → ¬ RestEverywhere ls ns ms → Used r i (clauses_at ls ns) ms
   unfolding Fit
   used r i [] ms a n = tt
   used r i (k ∷ ks) [] a n = tt
@@ -55,12 +55,12 @@ module _ (st : Stage) (g : ℕ) (ls : List Line) (inv : Inv st g ls) where
   used r i (k ∷ ks) (everywhere ∷ ms) a n =
       (⊎_elim (λ e. absurd (n (inl e))) a.0.1 (cases_Bool (line_at ls k).resting), used r i ks ms a.1 (λ q. n (inr q)))
 
-  narrow_all : (ns : List ℕ) → All (Inside ls) ns → All Narrow (clauses_at ls ns)
+  narrow_all : (ns : List ℕ) → AllByRecursion (Inside ls) ns → AllByRecursion Narrow (clauses_at ls ns)
   narrow_all [] a = tt
   narrow_all (n ∷ ns) a = (inv.narrow n a.0.0 a.0.1, narrow_all ns a.1)
 
   pub infer_new : (b : Consult) (ns : List ℕ) (k : Conclusion) (ms : List Mark) → b.late (clauses_at ls ns) ≡ gives k ms
-      → All (Inside ls) ns → All (λ n. ¬ Sleeps st ls n) ns → ¬ RestEverywhere ls ns ms
+      → AllByRecursion (Inside ls) ns → AllByRecursion (λ n. ¬ Sleeps st ls n) ns → ¬ RestEverywhere ls ns ms
       → New st g ls (record { clause = concluded k; cites = ns; resting = any_resting ls ns })
   unfolding Fit
   infer_new b ns k ms e is aw re = record {
@@ -149,8 +149,8 @@ module _ (g : ℕ) (ls : List Line) (inv : Inv sealed g ls) where
   }
 
 -- the assumptions of a loop that is opened
-pub assumed_new : (f g : ℕ) (l : Literal) (gs : List LitSet) (ls : List Line) (hs : List LitSet) → l.letter ≤ 19 → All (λ x. ¬ Over 59 x) hs → ((r : Run) (i : ℕ) → Stand r i l gs → Stand r i l hs)
-    → All (New (loop f l gs) g ls) (map (assumed l) hs)
+pub assumed_new : (f g : ℕ) (l : Literal) (gs : List LitSet) (ls : List Line) (hs : List LitSet) → l.letter ≤ 19 → AllByRecursion (λ x. ¬ Over 59 x) hs → ((r : Run) (i : ℕ) → Stand r i l gs → Stand r i l hs)
+    → AllByRecursion (New (loop f l gs) g ls) (map (assumed l) hs)
 assumed_new f g l gs ls [] h o w = tt
 assumed_new f g l gs ls (x ∷ hs) h o w = (
   record { low = tt; narrow = narrow_assumed l h x o.0; sound = λ q. absurd (true≢false q); sound_here = λ q r i s a. (w r i a).0 },
@@ -158,9 +158,9 @@ assumed_new f g l gs ls (x ∷ hs) h o w = (
 )
 
 -- the lines of a loop that is closed
-nevers_new : (g : ℕ) (l : Literal) (ls : List Line) (ns : List ℕ) → l.letter ≤ 19 → All (Inside ls) ns → (hs : List LitSet) → All (λ x. ¬ Over 59 x) hs
-    → ((r : Run) → All (RestsOn r g ls) ns → All (λ x. Keeps r (Never x l)) hs)
-    → All (New sealed g ls) (map (nevers l ns) hs)
+nevers_new : (g : ℕ) (l : Literal) (ls : List Line) (ns : List ℕ) → l.letter ≤ 19 → AllByRecursion (Inside ls) ns → (hs : List LitSet) → AllByRecursion (λ x. ¬ Over 59 x) hs
+    → ((r : Run) → AllByRecursion (RestsOn r g ls) ns → AllByRecursion (λ x. Keeps r (Never x l)) hs)
+    → AllByRecursion (New sealed g ls) (map (nevers l ns) hs)
 nevers_new g l ls ns h is [] o w = tt
 nevers_new g l ls ns h is (x ∷ hs) o w = (
   record { low = is; narrow = narrow_never l h x o.0; sound = λ _ r s. (w r s).0; sound_here = λ q. absurd (false≢true q) },
@@ -174,13 +174,13 @@ cover_broken r i x (Eventuality _ _) n e w u = absurd (n tt)
 cover_broken r i x (Assumption _) n e w u = absurd (n tt)
 cover_broken r i x (Never _ _) n e w u = absurd (n tt)
 
-stable : (r : Run) (A : ℕ → Type 0) (hs : List LitSet) → ¬ (¬ All (λ x. (i : ℕ) → Untrue r i x → ¬ A i) hs) → All (λ x. (i : ℕ) → Untrue r i x → ¬ A i) hs
+stable : (r : Run) (A : ℕ → Type 0) (hs : List LitSet) → ¬ (¬ AllByRecursion (λ x. (i : ℕ) → Untrue r i x → ¬ A i) hs) → AllByRecursion (λ x. (i : ℕ) → Untrue r i x → ¬ A i) hs
 stable r A [] n = tt
 stable r A (x ∷ hs) n = (λ i u a. n (λ p. p.0 i u a), stable r A hs (λ q. n (λ p. q p.1)))
 
 covered : (ls : List Line) (r : Run) (A : ℕ → Type 0) (k : ℕ) (ns : List ℕ) (hs : List LitSet) → length ns ≡ length hs
-    → All (λ n. (¬ NotGlobal (clause_at ls n)) × ((i : ℕ) → A i → Unbroken r i (clause_at ls n))) ns
-    → ¬ ((p : ℕ) × Unfit ls k ns hs p) → All (λ x. (i : ℕ) → Untrue r i x → ¬ A i) hs
+    → AllByRecursion (λ n. (¬ NotGlobal (clause_at ls n)) × ((i : ℕ) → A i → Unbroken r i (clause_at ls n))) ns
+    → ¬ ((p : ℕ) × Unfit ls k ns hs p) → AllByRecursion (λ x. (i : ℕ) → Untrue r i x → ¬ A i) hs
 covered ls r A k ns [] e a u = tt
 covered ls r A k [] (x ∷ hs) e a u = absurd (omega arith)
 covered ls r A k (n ∷ ns) (x ∷ hs) e a u = (
@@ -189,8 +189,8 @@ covered ls r A k (n ∷ ns) (x ∷ hs) e a u = (
 )
 
 pub close_new : (f g : ℕ) (l : Literal) (gs : List LitSet) (ls : List Line) → Inv (loop f l gs) g ls → (ns : List ℕ) → length ns ≡ length gs
-    → All (Inside ls) ns → All (λ n. ¬ Sleeps (loop f l gs) ls n) ns → All (λ n. ¬ NotGlobal (clause_at ls n)) ns → ¬ ((p : ℕ) × Unfit ls 1 ns gs p)
-    → All (New sealed g ls) (map (nevers l ns) gs)
+    → AllByRecursion (Inside ls) ns → AllByRecursion (λ n. ¬ Sleeps (loop f l gs) ls n) ns → AllByRecursion (λ n. ¬ NotGlobal (clause_at ls n)) ns → ¬ ((p : ℕ) × Unfit ls 1 ns gs p)
+    → AllByRecursion (New sealed g ls) (map (nevers l ns) gs)
 close_new f g l gs ls inv ns e is aw gl u = nevers_new g l ls ns inv.loop_small is gs inv.loop_narrow (λ r s. close_law r l inv.loop_small gs
     (covered ls r (λ i. Stand r i l gs) 1 ns gs e
     (All-weaker _ _ (λ n p. (p.0, λ i a. unbroken_here (loop f l gs) g ls inv n p.1.0 p.1.1.0 r i p.1.1.1 a)) ns

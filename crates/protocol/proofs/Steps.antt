@@ -2,7 +2,7 @@
 use Rattle.std.proofs.Common.{◌≡◌, ℕ, ◌+◌, ◌-◌, ◌<◌, ◌≤◌, false, List, [], ◌∷◌, ◌++◌, map, length, take, sym, refl, ap, subst, inl, inr, ⊎_elim, arith}
 use Rattle.std.proofs.lemmas.Bool.{cases_lt, cases_eq, leb-true, false≢true}
 use Rattle.std.proofs.lemmas.List.{length-append, length-take-le, length_push}
-use Rattle.std.specs.List.{AllByRecursion as All}
+use Rattle.std.specs.List.{AllByRecursion}
 use Rattle.clause.specs.Meaning.{Keeps}
 use Rattle.clause.specs.Refusals.{plain}
 use Rattle.clause.specs.Sets.{Over, Narrow}
@@ -32,7 +32,7 @@ pub record Next (s t : State) : Type 0 where
 pub not_due : (P : Type 0) (r : Refusal) → ((f : Fault) → ¬ if P r f) → ¬ P
 not_due P r h p = h (plain r) (p, refl)
 
-pub no_guard_over : (gs : List LitSet) → ¬ SomeOver gs → All (λ x. ¬ Over 59 x) gs
+pub no_guard_over : (gs : List LitSet) → ¬ SomeOver gs → AllByRecursion (λ x. ¬ Over 59 x) gs
 no_guard_over [] o = tt
 no_guard_over (g ∷ gs) o = (λ z. o (inl z), no_guard_over gs (λ z. o (inr z)))
 
@@ -58,8 +58,8 @@ give_inv g ls c inv o =
       fits = omega arith;
       all_given = λ _. omega arith;
       low = λ n h k. ⊎_elim
-          (λ q. new_line ls (x ∷ []) (λ y. All (λ m. (1 ≤ m) × (m < n)) y.cites) n q k (tt, tt))
-          (λ q. subst (λ y. All (λ m. (1 ≤ m) × (m < n)) y.cites) (sym (old_line ls (x ∷ []) n h q)) (inv.low n h q))
+          (λ q. new_line ls (x ∷ []) (λ y. AllByRecursion (λ m. (1 ≤ m) × (m < n)) y.cites) n q k (tt, tt))
+          (λ q. subst (λ y. AllByRecursion (λ m. (1 ≤ m) × (m < n)) y.cites) (sym (old_line ls (x ∷ []) n h q)) (inv.low n h q))
           (cases_lt (length ls) n);
       narrow = λ n h k. ⊎_elim
           (λ q. new_line ls (x ∷ []) (λ y. Narrow y.clause) n q k (narrow_given c o, tt))
@@ -95,7 +95,7 @@ cut_inv f g l gs ls inv =
     record {
       fits = omega arith;
       all_given = λ y. absurd y;
-      low = λ n h k. let k' : n ≤ c = omega arith in subst (λ y. All (λ m. (1 ≤ m) × (m < n)) y.cites) (sym (kept_line ls c q n h k')) (inv.low n h (omega arith));
+      low = λ n h k. let k' : n ≤ c = omega arith in subst (λ y. AllByRecursion (λ m. (1 ≤ m) × (m < n)) y.cites) (sym (kept_line ls c q n h k')) (inv.low n h (omega arith));
       narrow = λ n h k. let k' : n ≤ c = omega arith in subst (λ y. Narrow y.clause) (sym (kept_line ls c q n h k')) (inv.narrow n h (omega arith));
       sound = λ n h k z r s. let k' : n ≤ c = omega arith in
           subst (λ y. y.resting ≡ false → Keeps r y.clause) (sym (kept_line ls c q n h k'))

@@ -3,6 +3,6 @@
 
 pub mod answers;
 pub mod files;
-pub mod lines;
 pub mod printed;
+pub mod printing;
 pub mod report;

@@ -1,6 +1,6 @@
 -- A trial accepts just what follows, and refuses as refuted just what has a counterexample.
 use Rattle.std.proofs.Common.{◌≡◌, ℕ, zero, suc, ◌<◌, ◌≤◌, Bool, true, false, cond, not, ◌&&◌, ltb, leb, List, [], ◌∷◌, length, replicate, sym, refl, ap, ◌∙◌, subst, ⊎_elim, arith}
-use Rattle.std.specs.List.{AllByRecursion as All}
+use Rattle.std.specs.List.{AllByRecursion}
 use Rattle.std.proofs.lemmas.Bool.{cond_both, cond-true, cond-false, and_parts, and_from, or_parts, or_from, not-true, not_from_false, ltb-false, le-ltb, lt-ltb, leb-true, le-leb, cases_Bool}
 use Rattle.clause.specs.declared.syntax.LitSet.{LitSet}
 use Rattle.clause.specs.declared.syntax.Clause.{Clause}
@@ -24,7 +24,7 @@ ever_to (Eventuality _ _) p = absurd p
 ever_to (Assumption _) p = refl
 ever_to (Never _ _) p = absurd p
 
-all_to : (cs : List Clause) → All Ever cs → all_ever cs ≡ true
+all_to : (cs : List Clause) → AllByRecursion Ever cs → all_ever cs ≡ true
 all_to [] p = refl
 all_to (c ∷ cs) p = and_from (is_ever c) (all_ever cs) (ever_to c p.0) (all_to cs p.1)
 

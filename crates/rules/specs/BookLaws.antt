@@ -1,6 +1,6 @@
 -- What every outcome of a book owes, as one fact of the outcome.
 use Rattle.std.specs.Prelude.{◌≡◌, ℕ, ◌≤◌, ◌⊎◌, List, length, Some, None, Option}
-use Rattle.std.specs.List.{AllByRecursion as All}
+use Rattle.std.specs.List.{AllByRecursion}
 use Rattle.clause.specs.declared.syntax.Clause.{Clause}
 use Rattle.clause.specs.declared.refusal.Refusal.{Refusal}
 use Rattle.clause.specs.declared.refusal.Refusal.TheVariants.{LetterRange, WrongCount}
@@ -11,7 +11,7 @@ use Rattle.rules.specs.Books.{concluded, Outcome, refuses, gives, Used, Sound}
 
 abbrev pub Right : List Clause → Outcome → Type 0
 Right cs (refuses f) = (12 ≤ number_of f) × (number_of f ≤ 16)
-Right cs (gives c ms) = (length ms ≡ length cs) × (All Narrow cs → Narrow (concluded c)) × ((r : Run) (i : ℕ) → Used r i cs ms → Unbroken r i (concluded c))
+Right cs (gives c ms) = (length ms ≡ length cs) × (AllByRecursion Narrow cs → Narrow (concluded c)) × ((r : Run) (i : ℕ) → Used r i cs ms → Unbroken r i (concluded c))
 
 pub right_sound : (cs : List Clause) (o : Outcome) → Right cs o → Sound cs o
 right_sound cs (refuses f) p = tt

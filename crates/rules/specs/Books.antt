@@ -1,6 +1,6 @@
 -- What a rule book means, with its evidence given.
 use Rattle.std.specs.Prelude.{◌≡◌, ℕ, zero, suc, ◌/◌, ◌%◌, ◌^◌, ◌<◌, ◌≤◌, Bool, true, cond, ◌⊎◌, List, [], ◌∷◌, length, Some, Ok, Err, Option, Result, ◌==◌}
-use Rattle.std.specs.List.{AllByRecursion as All}
+use Rattle.std.specs.List.{AllByRecursion}
 use Rattle.clause.specs.declared.syntax.LitSet.{LitSet}
 use Rattle.clause.specs.declared.syntax.Clause.{Clause}
 use Rattle.clause.specs.declared.syntax.Clause.TheVariants.{Initial, Global}
@@ -50,7 +50,7 @@ pub record Consult : Type 0 where
   pub late_number : (cs : List Clause) (f : Refusal) → late cs ≡ refuses f → (12 ≤ number_of f) × (number_of f ≤ 16)
   pub all_marked : (cs : List Clause) (k : Conclusion) (ms : List Mark) → late cs ≡ gives k ms → length ms ≡ length cs
   pub sound : (cs : List Clause) → Sound cs (late cs)
-  pub narrow : (cs : List Clause) (k : Conclusion) (ms : List Mark) → All Narrow cs → late cs ≡ gives k ms → Narrow (concluded k)
+  pub narrow : (cs : List Clause) (k : Conclusion) (ms : List Mark) → AllByRecursion Narrow cs → late cs ≡ gives k ms → Narrow (concluded k)
 
 -- n marks as bits, the first lowest: 1 is everywhere
 abbrev pub marks_of : ℕ → ℕ → List Mark

@@ -1,6 +1,6 @@
 -- Trial: a claim is a line where every choice that breaks it breaks a cited line.
 use Rattle.std.specs.Prelude.{◌≡◌, ℕ, zero, suc, ◌+◌, ◌≤◌, Bool, true, false, cond, ◌||◌, ◌⊎◌, List, [], ◌∷◌, length, replicate, ◌==◌}
-use Rattle.std.specs.List.{AllByRecursion as All}
+use Rattle.std.specs.List.{AllByRecursion}
 use Rattle.clause.specs.declared.syntax.LitSet.{LitSet}
 use Rattle.clause.specs.declared.syntax.Clause.{Clause}
 use Rattle.clause.specs.declared.syntax.Clause.TheVariants.{Global}
@@ -60,7 +60,7 @@ pub record Ready (e : Claim) (cs : List Clause) : Type 0 where
   pub slim_now : ¬ Over 59 e.now
   pub slim_next : ¬ Over 59 e.next
   pub few_lines : length cs ≤ 4
-  pub kinds : All Ever cs
+  pub kinds : AllByRecursion Ever cs
   pub few_atoms : atoms e cs ≤ 10
 
 -- the claim is accepted just where it follows, and has a counterexample just where some choice breaks it and no line

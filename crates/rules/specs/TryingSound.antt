@@ -4,7 +4,7 @@ use Rattle.std.proofs.Common.{sym, ap, subst, ◌∙◌, inl, inr, ⊎_elim, ari
 use Rattle.std.proofs.Math.Nat.{pow-succ'}
 use Rattle.std.specs.Int.Bits.{bit_and}
 use Rattle.std.proofs.lemmas.Nat.{and_le_l, and_le_r}
-use Rattle.std.specs.List.{AllByRecursion as All}
+use Rattle.std.specs.List.{AllByRecursion}
 use Rattle.std.proofs.lemmas.Bool.{cond_both, cond-true, and_parts, and_from, and_cases, or_cases, or_left, or_right, or_parts, not-true, not-false, not_from_false, eqb-true, eqb-false, eq-eqb, ltb-true, ltb-false, lt-ltb, cases_Bool, cases_lt, cases_eq, false≢true, both_ways}
 use Rattle.clause.specs.declared.syntax.LitSet.{LitSet}
 use Rattle.clause.specs.declared.syntax.Clause.{Clause}
@@ -95,11 +95,11 @@ alike m n x y v w c a b g h = (
   λ f. and_from _ _ (fails_to m x v (now_of c) a g f.0) (fails_to n y w (next_of c) b h f.1),
 )
 
-one_from : (x y : ℕ) (v w : Choice) (cs : List Clause) → All (Alike x y v w) cs → one_broken_at x y cs ≡ true → BreaksOne v w cs
+one_from : (x y : ℕ) (v w : Choice) (cs : List Clause) → AllByRecursion (Alike x y v w) cs → one_broken_at x y cs ≡ true → BreaksOne v w cs
 one_from x y v w [] a e = false≢true e
 one_from x y v w (c ∷ cs) a e = ⊎_elim (λ h. inl (a.0.0 h)) (λ h. inr (one_from x y v w cs a.1 h)) (or_cases (broken_at x y c) (one_broken_at x y cs) e)
 
-one_to : (x y : ℕ) (v w : Choice) (cs : List Clause) → All (Alike x y v w) cs → BreaksOne v w cs → one_broken_at x y cs ≡ true
+one_to : (x y : ℕ) (v w : Choice) (cs : List Clause) → AllByRecursion (Alike x y v w) cs → BreaksOne v w cs → one_broken_at x y cs ≡ true
 one_to x y v w [] a b = absurd b
 one_to x y v w (c ∷ cs) a (inl b) = or_left (broken_at x y c) (one_broken_at x y cs) (a.0.1 b)
 one_to x y v w (c ∷ cs) a (inr b) = or_right (broken_at x y c) (one_broken_at x y cs) (one_to x y v w cs a.1 b)
@@ -119,12 +119,12 @@ among_own s k = (in_left s.plus s.minus k, in_right s.plus s.minus k)
 among_more : (m n : ℕ) (s : LitSet) → ((k : ℕ) → In k m → In k n) → Among m s → Among n s
 among_more m n s f a k = (λ h. f k ((a k).0 h), λ h. f k ((a k).1 h))
 
-now_among : (m : ℕ) (cs : List Clause) → All (λ c. Among (now_letters m cs) (now_of c)) cs
+now_among : (m : ℕ) (cs : List Clause) → AllByRecursion (λ c. Among (now_letters m cs) (now_of c)) cs
 now_among m [] = tt
 now_among m (c ∷ cs) = let l = letters_of (now_of c) in
     (among_more l (now_letters (bit_or m l) cs) (now_of c) (λ k h. now_keep (bit_or m l) k cs (in_right m l k h)) (among_own (now_of c)), now_among (bit_or m l) cs)
 
-next_among : (m : ℕ) (cs : List Clause) → All (λ c. Among (next_letters m cs) (next_of c)) cs
+next_among : (m : ℕ) (cs : List Clause) → AllByRecursion (λ c. Among (next_letters m cs) (next_of c)) cs
 next_among m [] = tt
 next_among m (c ∷ cs) = let l = letters_of (next_of c) in
     (among_more l (next_letters (bit_or m l) cs) (next_of c) (λ k h. next_keep (bit_or m l) k cs (in_right m l k h)) (among_own (next_of c)), next_among (bit_or m l) cs)
@@ -135,7 +135,7 @@ claim_now e cs = among_more (letters_of e.now) (now_atoms e cs) e.now (λ k h. n
 claim_next : (e : Claim) (cs : List Clause) → Among (next_atoms e cs) e.next
 claim_next e cs = among_more (letters_of e.next) (next_atoms e cs) e.next (λ k h. next_keep (letters_of e.next) k cs h) (among_own e.next)
 
-all_alike : (m n x y : ℕ) (v w : Choice) (cs : List Clause) → Agrees m x v → Agrees n y w → All (λ c. Among m (now_of c)) cs → All (λ c. Among n (next_of c)) cs → All (Alike x y v w) cs
+all_alike : (m n x y : ℕ) (v w : Choice) (cs : List Clause) → Agrees m x v → Agrees n y w → AllByRecursion (λ c. Among m (now_of c)) cs → AllByRecursion (λ c. Among n (next_of c)) cs → AllByRecursion (Alike x y v w) cs
 all_alike m n x y v w [] g h a b = tt
 all_alike m n x y v w (c ∷ cs) g h a b = (alike m n x y v w c a.0 b.0 g h, all_alike m n x y v w cs g h a.1 b.1)
 
@@ -146,7 +146,7 @@ choice_of x k = bit x k == 1
 own_alike : (x y : ℕ) (c : Clause) → Alike x y (choice_of x) (choice_of y) c
 own_alike x y c = alike (letters_of (now_of c)) (letters_of (next_of c)) x y (choice_of x) (choice_of y) c (among_own (now_of c)) (among_own (next_of c)) (λ k _. tells_eqb (bit x k) 1) (λ k _. tells_eqb (bit y k) 1)
 
-own_all : (x y : ℕ) (cs : List Clause) → All (Alike x y (choice_of x) (choice_of y)) cs
+own_all : (x y : ℕ) (cs : List Clause) → AllByRecursion (Alike x y (choice_of x) (choice_of y)) cs
 own_all x y [] = tt
 own_all x y (c ∷ cs) = (own_alike x y c, own_all x y cs)
 
@@ -198,7 +198,7 @@ pub counter_to : (e : Claim) (cs : List Clause) (v w : Choice) → Breaks v w (c
 counter_to e cs v w b f = let a = now_atoms e cs in let n = next_atoms e cs in
     and_from _ _ ((alike a n (pick a a v) (pick n n w) v w (claimed e) (claim_now e cs) (claim_next e cs) (pick_agrees a v) (pick_agrees n w)).1 b) (not_from_false _ f)
 
-picked_alike : (e : Claim) (cs : List Clause) (v w : Choice) → All (Alike (pick (now_atoms e cs) (now_atoms e cs) v) (pick (next_atoms e cs) (next_atoms e cs) w) v w) cs
+picked_alike : (e : Claim) (cs : List Clause) (v w : Choice) → AllByRecursion (Alike (pick (now_atoms e cs) (now_atoms e cs) v) (pick (next_atoms e cs) (next_atoms e cs) w) v w) cs
 picked_alike e cs v w = let a = now_atoms e cs in let n = next_atoms e cs in
     all_alike a n (pick a a v) (pick n n w) v w cs (pick_agrees a v) (pick_agrees n w) (now_among (letters_of e.now) cs) (next_among (letters_of e.next) cs)
 
@@ -257,13 +257,13 @@ broken_ever r i (Eventuality _ _) p u t = absurd p
 broken_ever r i (Assumption _) p u t = t
 broken_ever r i (Never _ _) p u t = absurd p
 
-none_breaks : (m n : ℕ) (r : Run) (i : ℕ) (v w : Choice) (cs : List Clause) → All Ever cs → All (λ c. Among m (now_of c)) cs → All (λ c. Among n (next_of c)) cs
+none_breaks : (m n : ℕ) (r : Run) (i : ℕ) (v w : Choice) (cs : List Clause) → AllByRecursion Ever cs → AllByRecursion (λ c. Among m (now_of c)) cs → AllByRecursion (λ c. Among n (next_of c)) cs
     → ((k : ℕ) → In k m → Tells (v k) (LetterTrue r i k)) → ((k : ℕ) → In k n → Tells (w k) (LetterTrue r (i + 1) k)) → Used r i cs (replicate (length cs) here) → BreaksOne v w cs → ⊥
 none_breaks m n r i v w [] p a b g h u o = o
 none_breaks m n r i v w (c ∷ cs) p a b g h u (inl o) = u.0 (broken_ever r i c p.0 (fails_untrue m r i v (now_of c) a.0 g o.0) (fails_untrue n r (i + 1) w (next_of c) b.0 h o.1))
 none_breaks m n r i v w (c ∷ cs) p a b g h u (inr o) = none_breaks m n r i v w cs p.1 a.1 b.1 g h u.1 o
 
-pub follows_sound : (e : Claim) (cs : List Clause) → All Ever cs → Follows cs (claimed e) → (r : Run) (i : ℕ) → Used r i cs (replicate (length cs) here) → Unbroken r i (claimed e)
+pub follows_sound : (e : Claim) (cs : List Clause) → AllByRecursion Ever cs → Follows cs (claimed e) → (r : Run) (i : ℕ) → Used r i cs (replicate (length cs) here) → Unbroken r i (claimed e)
 follows_sound e cs p f r i u b = let a = now_atoms e cs in let d = next_atoms e cs in
     decided a (LetterTrue r i) (λ v g. decided d (LetterTrue r (i + 1)) (λ w h.
     let g' : (k : ℕ) → In k a → Tells (v k) (LetterTrue r i k) = λ k l. g k (in_below a a k (below_power a) l) in
@@ -293,7 +293,7 @@ ever_from (Eventuality _ _) e = false≢true e
 ever_from (Assumption _) e = tt
 ever_from (Never _ _) e = false≢true e
 
-pub all_from : (cs : List Clause) → all_ever cs ≡ true → All Ever cs
+pub all_from : (cs : List Clause) → all_ever cs ≡ true → AllByRecursion Ever cs
 all_from [] e = tt
 all_from (c ∷ cs) e = let q = and_parts (is_ever c) (all_ever cs) e in (ever_from c q.0, all_from cs q.1)
 

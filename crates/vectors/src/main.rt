@@ -3,7 +3,7 @@
 
 use lines::line::Line;
 use reports::files::read_text;
-use reports::lines::{print_fault, print_verdict};
+use reports::printing::{print_fault, print_verdict};
 use runtext::checks::check_run;
 use std::{fs, io};
 use text::cases::read_case;

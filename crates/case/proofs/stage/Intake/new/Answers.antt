@@ -1,7 +1,7 @@
 use Rattle.std.proofs.Common.{sym, refl, subst, arith}
 use Rattle.protocol.proofs.Histories.{promise}
 use Rattle.protocol.specs.History.{begun}
-use Rattle.std.specs.List.{AllByRecursion as All}
+use Rattle.std.specs.List.{AllByRecursion}
 use Rattle.std.proofs.lemmas.List.{drop_all}
 use Rattle.lines.specs.View.{IsBlank}
 use Rattle.case.proofs.Giving.{blanked_from}
@@ -14,6 +14,6 @@ pub returns : goal.returns
 returns c =
     let b = c.blank_between.ensures (omega arith) (omega arith) in
     record {
-      begun = (c.if-table-ne1000.false, refl, b, record { history = begun; blank = blanked_from 0 1000 c.args.table.now _ (omega arith) b (subst (All IsBlank) (sym (drop_all 1000 c.args.table.now (omega arith))) tt) });
+      begun = (c.if-table-ne1000.false, refl, b, record { history = begun; blank = blanked_from 0 1000 c.args.table.now _ (omega arith) b (subst (AllByRecursion IsBlank) (sym (drop_all 1000 c.args.table.now (omega arith))) tt) });
       promise = promise;
     }
