@@ -13,13 +13,11 @@ fn core_of(row: &[u16], count: u16) -> &[u16]
 }
 
 // Adds a number behind a space.
-fn add_number(text: &mut String, n: u16) -> Result<(), AllocError>
+fn add_number(heap: Global, text: &mut String, n: u16) -> Result<(), AllocError>
     ensures { OnOk result (string_bytes text.new ≡ string_bytes text.old ++ 32 ∷ decimal n) }
 {
-    match write!(text, " {n}") {
-        Ok(()) => Ok(()),
-        Err(_) => Err(AllocError),
-    }
+    let piece = format!(in heap; " {n}")?;
+    text.push_str(&piece)
 }
 
 // Numbers parted by single spaces.
@@ -31,7 +29,7 @@ fn spaced_text(heap: Global, numbers: &[u16]) -> Result<String, AllocError>
     };
     let mut text = first.to_string(heap)?;
     for n in rest {
-        add_number(&mut text, *n)?;
+        add_number(heap, &mut text, *n)?;
     }
     Ok(text)
 }
