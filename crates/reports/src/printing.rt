@@ -1,34 +1,15 @@
+ghost use Rattle.std.specs.Prelude.{◌≡◌};
+ghost use Rattle.reasons.specs.Sentences.{reason_of};
+
 use clause::refusal::{Fault, Refusal};
 use std::io;
 use text::stage::Verdict;
 
 // What a refusal says, in words.
-pub fn reason(refusal: Refusal) -> &'static str {
-    match refusal {
-        Refusal::WrongSize => "the table or the row has the wrong size",
-        Refusal::TextTooLong => "the text is longer than 65536 bytes",
-        Refusal::TextEmpty => "the text has no bytes",
-        Refusal::UnknownKey => "the key is unknown",
-        Refusal::FieldCount => "the number of fields is wrong",
-        Refusal::FieldForm => "a field or the line end is not in its form",
-        Refusal::WrongState => "the key does not fit here",
-        Refusal::LetterRange => "a letter is too high",
-        Refusal::WrongCount => "the number of guards, cited lines or covers is wrong",
-        Refusal::NoSuchLine => "no line has this number",
-        Refusal::NotInForce => "a named line is not in force",
-        Refusal::WrongKind => "the kind of a named line does not suit",
-        Refusal::InitialMeetsNext => "an initial line meets a global line with a next set",
-        Refusal::LacksLiteral => "a cited line lacks its literal",
-        Refusal::TooManyAtoms => "the trial has more than 10 atoms",
-        Refusal::Counterexample => "a choice breaks the claim and no cited line",
-        Refusal::RestingEverywhere => "a resting line would be used at every moment",
-        Refusal::CoverMisfit => "a cover does not fit its guard",
-        Refusal::LiteralsDiffer => "the two drawn lines differ in their literal",
-        Refusal::NoRoom => "there is no room for more lines",
-        Refusal::NotEmpty => "the refuted line has a literal",
-        Refusal::OutOfRange => "a size or a task of the run is out of range",
-        Refusal::RunBreaks => "the run breaks a given line",
-    }
+pub fn reason(refusal: Refusal) -> &'static str
+    ensures { result.now ≡ reason_of refusal }
+{
+    reasons::sentences::reason(refusal)
 }
 
 // The five numbers of a fault, on one line.
