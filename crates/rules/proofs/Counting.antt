@@ -3,13 +3,15 @@ use Rattle.std.proofs.Common.{◌≡◌, ℕ, zero, suc, ◌+◌, ◌/◌, ◌^�
 use native.Mathlib.Nat.{pow-succ'}
 use lib.Bits.{bit_or}
 use lib.Count.{ones, ones_step}
+use Rattle.std.specs.List.{list_any}
+use Rattle.clause.specs.declared.syntax.LitSet.{LitSet}
 use Rattle.clause.specs.declared.syntax.Clause.{Clause}
 use Rattle.clause.specs.Bit.{bit}
-use Rattle.clause.specs.Sets.{now_of, next_of}
 use Rattle.clause.proofs.Masks.{bit-bit_or, bit_lt, bit_zero, bit_suc}
+use Rattle.clause.specs.Sets.{now_of, next_of}
 use Rattle.rules.specs.declared.trial.Claim.{Claim}
-use Rattle.rules.specs.Trying.{claimed, occurs, occurs_now, occurs_next, how_many}
-use Rattle.rules.specs.Deciding.{letters_of, now_letters, next_letters, now_atoms, next_atoms}
+use Rattle.rules.specs.Trying.{claimed, occurs, how_many, atoms}
+use Rattle.rules.specs.Deciding.{letters_of, letters_with, now_atoms, next_atoms}
 
 many_same : (n : ℕ) (p q : ℕ → Bool) → ((k : ℕ) → p k ≡ q k) → how_many n p ≡ how_many n q
 unfolding how_many
@@ -52,28 +54,20 @@ or_three : (a b c : Bool) → (a || b) || c ≡ a || (b || c)
 or_three true b c = refl
 or_three false b c = refl
 
-now_bit : (m k : ℕ) (cs : List Clause) → eqb (bit (now_letters m cs) k) 1 ≡ eqb (bit m k) 1 || occurs_now k cs
-now_bit m k [] = or_false (eqb (bit m k) 1)
+with_bit : (part : Clause → LitSet) (m k : ℕ) (cs : List Clause) → eqb (bit (letters_with part m cs) k) 1 ≡ eqb (bit m k) 1 || list_any (λ c. occurs k (part c)) cs
+with_bit part m k [] = or_false (eqb (bit m k) 1)
   where
     or_false : (a : Bool) → a ≡ a || false
     or_false true = refl
     or_false false = refl
-now_bit m k (c ∷ cs) = now_bit (bit_or m (letters_of (now_of c))) k cs
-    ∙ ap (λ b. b || occurs_now k cs) (or_bit m (letters_of (now_of c)) k ∙ ap (λ b. eqb (bit m k) 1 || b) (or_bit (now_of c).plus (now_of c).minus k))
-    ∙ or_three (eqb (bit m k) 1) (occurs k (now_of c)) (occurs_now k cs)
+with_bit part m k (c ∷ cs) = with_bit part (bit_or m (letters_of (part c))) k cs
+    ∙ ap (λ b. b || list_any (λ c. occurs k (part c)) cs) (or_bit m (letters_of (part c)) k ∙ ap (λ b. eqb (bit m k) 1 || b) (or_bit (part c).plus (part c).minus k))
+    ∙ or_three (eqb (bit m k) 1) (occurs k (part c)) (list_any (λ c. occurs k (part c)) cs)
 
-next_bit : (m k : ℕ) (cs : List Clause) → eqb (bit (next_letters m cs) k) 1 ≡ eqb (bit m k) 1 || occurs_next k cs
-next_bit m k [] = or_false (eqb (bit m k) 1)
-  where
-    or_false : (a : Bool) → a ≡ a || false
-    or_false true = refl
-    or_false false = refl
-next_bit m k (c ∷ cs) = next_bit (bit_or m (letters_of (next_of c))) k cs
-    ∙ ap (λ b. b || occurs_next k cs) (or_bit m (letters_of (next_of c)) k ∙ ap (λ b. eqb (bit m k) 1 || b) (or_bit (next_of c).plus (next_of c).minus k))
-    ∙ or_three (eqb (bit m k) 1) (occurs k (next_of c)) (occurs_next k cs)
+part_count : (part : Clause → LitSet) (c : Clause) (cs : List Clause) (a : ℕ) → a < 2 ^ 64 → a ≡ letters_with part (letters_of (part c)) cs
+    → ones a ≡ how_many 64 (λ k. list_any (λ d. occurs k (part d)) (c ∷ cs))
+part_count part c cs a h q = ones_many 64 a h
+    ∙ many_same 64 _ _ (λ k. ap (λ n. eqb (bit n k) 1) q ∙ with_bit part (letters_of (part c)) k cs ∙ ap (λ b. b || list_any (λ d. occurs k (part d)) cs) (or_bit (part c).plus (part c).minus k))
 
-pub now_count : (e : Claim) (cs : List Clause) (a : ℕ) → a < 2 ^ 64 → a ≡ now_atoms e cs → ones a ≡ how_many 64 (λ k. occurs_now k (claimed e ∷ cs))
-now_count e cs a h q = ones_many 64 a h ∙ many_same 64 _ _ (λ k. ap (λ n. eqb (bit n k) 1) q ∙ now_bit (letters_of e.now) k cs ∙ ap (λ b. b || occurs_now k cs) (or_bit e.now.plus e.now.minus k))
-
-pub next_count : (e : Claim) (cs : List Clause) (a : ℕ) → a < 2 ^ 64 → a ≡ next_atoms e cs → ones a ≡ how_many 64 (λ k. occurs_next k (claimed e ∷ cs))
-next_count e cs a h q = ones_many 64 a h ∙ many_same 64 _ _ (λ k. ap (λ n. eqb (bit n k) 1) q ∙ next_bit (letters_of e.next) k cs ∙ ap (λ b. b || occurs_next k cs) (or_bit e.next.plus e.next.minus k))
+pub atoms_count : (e : Claim) (cs : List Clause) (a b : ℕ) → a < 2 ^ 64 → b < 2 ^ 64 → a ≡ now_atoms e cs → b ≡ next_atoms e cs → ones a + ones b ≡ atoms e cs
+atoms_count e cs a b g h p q = λ i. part_count now_of (claimed e) cs a g p i + part_count next_of (claimed e) cs b h q i

@@ -22,7 +22,7 @@ use Rattle.rules.specs.Kinds.{Ever}
 use Rattle.rules.specs.Books.{Consult, here, Used}
 use Rattle.rules.specs.BookLaws.{Right, right_sound, Early}
 use Rattle.rules.specs.Trying.{claimed, Choice, Fails, Breaks, BreaksOne, Follows, Refuted, atoms}
-use Rattle.rules.specs.Deciding.{letters_of, now_letters, next_letters, now_atoms, next_atoms, untrue_at, broken_at, one_broken_at, counter_at, Sub, some_to, countered, is_ever, all_ever, wide, wide_claim, early_trial, suited, late_trial}
+use Rattle.rules.specs.Deciding.{letters_of, letters_with, now_atoms, next_atoms, untrue_at, broken_at, one_broken_at, counter_at, Sub, some_to, countered, is_ever, all_ever, wide, wide_claim, early_trial, suited, late_trial}
 
 -- numbers up to a bound
 pub some_from : (n : ℕ) (p : ℕ → Bool) → some_to n p ≡ true → (k : ℕ) × (k ≤ n) × (p k ≡ true)
@@ -105,13 +105,9 @@ one_to x y v w (c ∷ cs) a (inl b) = or_left (broken_at x y c) (one_broken_at x
 one_to x y v w (c ∷ cs) a (inr b) = or_right (broken_at x y c) (one_broken_at x y cs) (one_to x y v w cs a.1 b)
 
 -- the letters of the claim and of each line are atoms
-now_keep : (m k : ℕ) (cs : List Clause) → In k m → In k (now_letters m cs)
-now_keep m k [] h = h
-now_keep m k (c ∷ cs) h = now_keep (bit_or m (letters_of (now_of c))) k cs (in_left m (letters_of (now_of c)) k h)
-
-next_keep : (m k : ℕ) (cs : List Clause) → In k m → In k (next_letters m cs)
-next_keep m k [] h = h
-next_keep m k (c ∷ cs) h = next_keep (bit_or m (letters_of (next_of c))) k cs (in_left m (letters_of (next_of c)) k h)
+kept : (part : Clause → LitSet) (m k : ℕ) (cs : List Clause) → In k m → In k (letters_with part m cs)
+kept part m k [] h = h
+kept part m k (c ∷ cs) h = kept part (bit_or m (letters_of (part c))) k cs (in_left m (letters_of (part c)) k h)
 
 among_own : (s : LitSet) → Among (letters_of s) s
 among_own s k = (in_left s.plus s.minus k, in_right s.plus s.minus k)
@@ -119,21 +115,13 @@ among_own s k = (in_left s.plus s.minus k, in_right s.plus s.minus k)
 among_more : (m n : ℕ) (s : LitSet) → ((k : ℕ) → In k m → In k n) → Among m s → Among n s
 among_more m n s f a k = (λ h. f k ((a k).0 h), λ h. f k ((a k).1 h))
 
-now_among : (m : ℕ) (cs : List Clause) → AllByRecursion (λ c. Among (now_letters m cs) (now_of c)) cs
-now_among m [] = tt
-now_among m (c ∷ cs) = let l = letters_of (now_of c) in
-    (among_more l (now_letters (bit_or m l) cs) (now_of c) (λ k h. now_keep (bit_or m l) k cs (in_right m l k h)) (among_own (now_of c)), now_among (bit_or m l) cs)
+among_lines : (part : Clause → LitSet) (m : ℕ) (cs : List Clause) → AllByRecursion (λ c. Among (letters_with part m cs) (part c)) cs
+among_lines part m [] = tt
+among_lines part m (c ∷ cs) = let l = letters_of (part c) in
+    (among_more l (letters_with part (bit_or m l) cs) (part c) (λ k h. kept part (bit_or m l) k cs (in_right m l k h)) (among_own (part c)), among_lines part (bit_or m l) cs)
 
-next_among : (m : ℕ) (cs : List Clause) → AllByRecursion (λ c. Among (next_letters m cs) (next_of c)) cs
-next_among m [] = tt
-next_among m (c ∷ cs) = let l = letters_of (next_of c) in
-    (among_more l (next_letters (bit_or m l) cs) (next_of c) (λ k h. next_keep (bit_or m l) k cs (in_right m l k h)) (among_own (next_of c)), next_among (bit_or m l) cs)
-
-claim_now : (e : Claim) (cs : List Clause) → Among (now_atoms e cs) e.now
-claim_now e cs = among_more (letters_of e.now) (now_atoms e cs) e.now (λ k h. now_keep (letters_of e.now) k cs h) (among_own e.now)
-
-claim_next : (e : Claim) (cs : List Clause) → Among (next_atoms e cs) e.next
-claim_next e cs = among_more (letters_of e.next) (next_atoms e cs) e.next (λ k h. next_keep (letters_of e.next) k cs h) (among_own e.next)
+among_first : (part : Clause → LitSet) (s : LitSet) (cs : List Clause) → Among (letters_with part (letters_of s) cs) s
+among_first part s cs = among_more (letters_of s) (letters_with part (letters_of s) cs) s (λ k h. kept part (letters_of s) k cs h) (among_own s)
 
 all_alike : (m n x y : ℕ) (v w : Choice) (cs : List Clause) → Agrees m x v → Agrees n y w → AllByRecursion (λ c. Among m (now_of c)) cs → AllByRecursion (λ c. Among n (next_of c)) cs → AllByRecursion (Alike x y v w) cs
 all_alike m n x y v w [] g h a b = tt
@@ -196,11 +184,11 @@ pick_sub a v = within_to a (pick a a v) a (omega (arith, pick_le a a v, below_po
 pub counter_to : (e : Claim) (cs : List Clause) (v w : Choice) → Breaks v w (claimed e) → (one_broken_at (pick (now_atoms e cs) (now_atoms e cs) v) (pick (next_atoms e cs) (next_atoms e cs) w) cs ≡ false)
     → counter_at (pick (now_atoms e cs) (now_atoms e cs) v) (pick (next_atoms e cs) (next_atoms e cs) w) (claimed e) cs ≡ true
 counter_to e cs v w b f = let a = now_atoms e cs in let n = next_atoms e cs in
-    and_from _ _ ((alike a n (pick a a v) (pick n n w) v w (claimed e) (claim_now e cs) (claim_next e cs) (pick_agrees a v) (pick_agrees n w)).1 b) (not_from_false _ f)
+    and_from _ _ ((alike a n (pick a a v) (pick n n w) v w (claimed e) (among_first now_of e.now cs) (among_first next_of e.next cs) (pick_agrees a v) (pick_agrees n w)).1 b) (not_from_false _ f)
 
 picked_alike : (e : Claim) (cs : List Clause) (v w : Choice) → AllByRecursion (Alike (pick (now_atoms e cs) (now_atoms e cs) v) (pick (next_atoms e cs) (next_atoms e cs) w) v w) cs
 picked_alike e cs v w = let a = now_atoms e cs in let n = next_atoms e cs in
-    all_alike a n (pick a a v) (pick n n w) v w cs (pick_agrees a v) (pick_agrees n w) (now_among (letters_of e.now) cs) (next_among (letters_of e.next) cs)
+    all_alike a n (pick a a v) (pick n n w) v w cs (pick_agrees a v) (pick_agrees n w) (among_lines now_of (letters_of e.now) cs) (among_lines next_of (letters_of e.next) cs)
 
 pub masks_from : (e : Claim) (cs : List Clause) → Refuted cs (claimed e) → (y : ℕ) × Sub y (next_atoms e cs) × (x : ℕ) × Sub x (now_atoms e cs) × (counter_at x y (claimed e) cs ≡ true)
 masks_from e cs (v, w, b, n) = let a = now_atoms e cs in let d = next_atoms e cs in
@@ -268,8 +256,8 @@ follows_sound e cs p f r i u b = let a = now_atoms e cs in let d = next_atoms e 
     decided a (LetterTrue r i) (λ v g. decided d (LetterTrue r (i + 1)) (λ w h.
     let g' : (k : ℕ) → In k a → Tells (v k) (LetterTrue r i k) = λ k l. g k (in_below a a k (below_power a) l) in
     let h' : (k : ℕ) → In k d → Tells (w k) (LetterTrue r (i + 1) k) = λ k l. h k (in_below d d k (below_power d) l) in
-    none_breaks a d r i v w cs p (now_among (letters_of e.now) cs) (next_among (letters_of e.next) cs) g' h' u
-    (f v w (untrue_fails a r i v e.now (claim_now e cs) g' b.0, untrue_fails d r (i + 1) w e.next (claim_next e cs) h' b.1))))
+    none_breaks a d r i v w cs p (among_lines now_of (letters_of e.now) cs) (among_lines next_of (letters_of e.next) cs) g' h' u
+    (f v w (untrue_fails a r i v e.now (among_first now_of e.now cs) g' b.0, untrue_fails d r (i + 1) w e.next (among_first next_of e.next cs) h' b.1))))
 
 -- what is asked before
 pub wide_over : (s : LitSet) → wide s ≡ true → Over 59 s
