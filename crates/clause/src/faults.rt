@@ -1,5 +1,5 @@
 ghost use Rattle.std.specs.Prelude.{◌≡◌};
-ghost use Rattle.clause.specs.Refusals.{number_of, layer_of, layer_number, plain, fault_at};
+ghost use Rattle.clause.specs.Refusals.{number_of, layer_of, layer_number, plain, fault_at, placed};
 
 use crate::refusal::{Fault, Layer, Refusal};
 
@@ -74,12 +74,7 @@ impl Fault {
     pub fn of(refusal: Refusal) -> Fault
         ensures { result ≡ plain refusal }
     {
-        Fault {
-            refusal,
-            line: 0,
-            field: 0,
-            detail: 0,
-        }
+        Fault::at(refusal, 0, 0)
     }
 
     pub fn at(refusal: Refusal, line: u16, detail: u16) -> Fault
@@ -90,6 +85,17 @@ impl Fault {
             line,
             field: 0,
             detail,
+        }
+    }
+
+    // The fault with a line and a field of a text.
+    pub fn placed(self, at: u16, field: u16) -> Fault
+        ensures { result ≡ placed at field self }
+    {
+        Fault {
+            line: at,
+            field,
+            ..self
         }
     }
 
