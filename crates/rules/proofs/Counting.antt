@@ -8,10 +8,10 @@ use Rattle.clause.specs.declared.syntax.LitSet.{LitSet}
 use Rattle.clause.specs.declared.syntax.Clause.{Clause}
 use Rattle.clause.specs.Bit.{bit}
 use Rattle.clause.proofs.Masks.{bit-bit_or, bit_lt, bit_zero, bit_suc}
-use Rattle.clause.specs.Sets.{now_of, next_of}
+use Rattle.clause.specs.Sets.{letters_of, now_of, next_of}
 use Rattle.rules.specs.declared.trial.Claim.{Claim}
 use Rattle.rules.specs.Trying.{claimed, occurs, how_many, atoms}
-use Rattle.rules.specs.Deciding.{letters_of, letters_with, now_atoms, next_atoms}
+use Rattle.rules.specs.Deciding.{letters_with, now_atoms, next_atoms}
 
 many_same : (n : ℕ) (p q : ℕ → Bool) → ((k : ℕ) → p k ≡ q k) → how_many n p ≡ how_many n q
 unfolding how_many

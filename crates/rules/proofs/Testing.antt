@@ -4,20 +4,15 @@ use lib.Bits.{bit_and}
 use Rattle.std.proofs.lemmas.Bool.{and_from, and_parts, eqb-true, eq-eqb, cases_Bool}
 use Rattle.clause.specs.declared.syntax.LitSet.{LitSet}
 use Rattle.clause.specs.Tests.{Tells}
-use Rattle.clause.specs.Sets.{Over, UntrueIn}
+use Rattle.clause.specs.Sets.{UntrueIn}
 use Rattle.clause.proofs.Masks.{within_from, within_to, disjoint_from, disjoint_to}
-use Rattle.rules.specs.Deciding.{untrue_at, wide}
-use Rattle.rules.specs.TryingSound.{wide_over, wide_not, below_power}
+use Rattle.rules.specs.Deciding.{untrue_at}
+use Rattle.rules.specs.TryingSound.{below_power}
 
 -- a test that tells P is any test that holds where P does
-told_as : (r b : Bool) (P : Type 0) → Tells r P → (P → b ≡ true) → (b ≡ true → P) → r ≡ b
+pub told_as : (r b : Bool) (P : Type 0) → Tells r P → (P → b ≡ true) → (b ≡ true → P) → r ≡ b
 told_as true b P t f g = sym (f t)
 told_as false b P t f g = ⊎_elim (λ e. absurd (t (g e))) (λ e. sym e) (cases_Bool b)
-
-pub told_wide : (r : Bool) (s : LitSet) → Tells r (Over 59 s) → r ≡ wide s
-told_wide r s t = told_as r (wide s) (Over 59 s) t
-    (λ w. ⊎_elim (λ e. e) (λ e. absurd (wide_not s e w)) (cases_Bool (wide s)))
-    (wide_over s)
 
 told_untrue : (r : Bool) (x : ℕ) (s : LitSet) → Tells r (UntrueIn x s) → r ≡ untrue_at x s
 told_untrue r x s t = told_as r (untrue_at x s) (UntrueIn x s) t

@@ -1,20 +1,16 @@
 -- How a trial is decided: choices as masks of the letters of which they say yes.
-use Rattle.std.specs.Prelude.{◌≡◌, ℕ, zero, suc, ◌+◌, ◌^◌, ◌<◌, ◌≤◌, Bool, true, false, cond, not, ◌&&◌, ◌||◌, List, [], ◌∷◌, length, replicate, Some, None, Option, ◌==◌, bit_and, bit_or, nat_le, nat_lt, fold}
+use Rattle.std.specs.Prelude.{◌≡◌, ℕ, zero, suc, ◌+◌, ◌<◌, ◌≤◌, Bool, true, false, cond, not, ◌&&◌, ◌||◌, List, [], ◌∷◌, length, replicate, Some, None, Option, ◌==◌, bit_and, bit_or, nat_le, nat_lt, fold}
 use Rattle.std.specs.List.{list_any, list_all}
 use Rattle.clause.specs.declared.syntax.LitSet.{LitSet}
 use Rattle.clause.specs.declared.syntax.Clause.{Clause}
 use Rattle.clause.specs.declared.syntax.Clause.TheVariants.{Initial, Global, Eventuality, Assumption, Never}
 use Rattle.clause.specs.declared.refusal.Refusal.{Refusal}
 use Rattle.clause.specs.declared.refusal.Refusal.TheVariants.{LetterRange, WrongCount, WrongKind, TooManyAtoms, Counterexample}
-use Rattle.clause.specs.Sets.{now_of, next_of}
+use Rattle.clause.specs.Sets.{letters_of, reaches, now_of, next_of}
 use Rattle.rules.specs.declared.trial.Claim.{Claim}
 use Rattle.rules.specs.declared.trial.Choices.{Choices}
 use Rattle.rules.specs.Books.{here, globally, Outcome, refuses, gives}
 use Rattle.rules.specs.Trying.{claimed, atoms}
-
--- the letters of a set, as a mask
-abbrev pub letters_of : LitSet → ℕ
-letters_of s = bit_or s.plus s.minus
 
 -- the letters of m, and those of a part of each line
 abbrev pub letters_with : (Clause → LitSet) → ℕ → List Clause → ℕ
@@ -82,12 +78,9 @@ is_ever (Never _ _) = false
 abbrev pub all_ever : List Clause → Bool
 all_ever cs = list_all is_ever cs
 
--- has a set a letter above 59?
-abbrev pub wide : LitSet → Bool
-wide s = not (nat_lt s.plus (2 ^ 60) && nat_lt s.minus (2 ^ 60))
-
+-- has a claim a letter above 59?
 abbrev pub wide_claim : Claim → Bool
-wide_claim e = wide e.now || wide e.next
+wide_claim e = reaches 60 e.now || reaches 60 e.next
 
 abbrev pub early_trial : Claim → ℕ → Option Refusal
 early_trial e n = cond (wide_claim e) (Some LetterRange) (cond (n == 0 || nat_lt 4 n) (Some WrongCount) None)

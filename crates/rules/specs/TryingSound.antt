@@ -14,7 +14,7 @@ use Rattle.clause.specs.declared.refusal.Refusal.TheVariants.{LetterRange, Wrong
 use Rattle.clause.specs.Bit.{bit, In}
 use Rattle.clause.specs.Tests.{Tells}
 use Rattle.clause.specs.Meaning.{Run, LetterTrue, Untrue, Broken, Unbroken}
-use Rattle.clause.specs.Sets.{Over, now_of, next_of}
+use Rattle.clause.specs.Sets.{Over, letters_of, reaches, now_of, next_of}
 use Rattle.clause.proofs.Telling.{tells, tells_eqb}
 use Rattle.clause.proofs.Masks.{bit-bit_and, bit_lt, bit_zero, bit_suc, zero_bit, bits_same, within_from, within_to, in_left, in_right, in_below, shifted_some}
 use Rattle.rules.specs.declared.trial.Claim.{Claim}
@@ -22,7 +22,7 @@ use Rattle.rules.specs.Kinds.{Ever}
 use Rattle.rules.specs.Books.{Consult, here, Used}
 use Rattle.rules.specs.BookLaws.{Right, right_sound, Early}
 use Rattle.rules.specs.Trying.{claimed, Choice, Fails, Breaks, BreaksOne, Follows, Refuted, atoms}
-use Rattle.rules.specs.Deciding.{letters_of, letters_with, now_atoms, next_atoms, untrue_at, broken_at, one_broken_at, counter_at, Sub, some_to, countered, is_ever, all_ever, wide, wide_claim, early_trial, suited, late_trial}
+use Rattle.rules.specs.Deciding.{letters_with, now_atoms, next_atoms, untrue_at, broken_at, one_broken_at, counter_at, Sub, some_to, countered, is_ever, all_ever, wide_claim, early_trial, suited, late_trial}
 
 -- numbers up to a bound
 pub some_from : (n : ℕ) (p : ℕ → Bool) → some_to n p ≡ true → (k : ℕ) × (k ≤ n) × (p k ≡ true)
@@ -260,7 +260,7 @@ follows_sound e cs p f r i u b = let a = now_atoms e cs in let d = next_atoms e 
     (f v w (untrue_fails a r i v e.now (among_first now_of e.now cs) g' b.0, untrue_fails d r (i + 1) w e.next (among_first next_of e.next cs) h' b.1))))
 
 -- what is asked before
-pub wide_over : (s : LitSet) → wide s ≡ true → Over 59 s
+pub wide_over : (s : LitSet) → reaches 60 s ≡ true → Over 59 s
 wide_over s e = ⊎_elim
     (λ p. let w = over s.plus (ltb-false _ _ p) in (w.0, w.1, inl w.2))
     (λ p. let w = over s.minus (ltb-false _ _ p) in (w.0, w.1, inr w.2))
@@ -269,7 +269,7 @@ wide_over s e = ⊎_elim
     over : (n : ℕ) → 2 ^ 60 ≤ n → (k : ℕ) × (59 < k) × In k n
     over n h = shifted_some n n 59 (below_power n) (λ z. omega arith)
 
-pub wide_not : (s : LitSet) → wide s ≡ false → ¬ Over 59 s
+pub wide_not : (s : LitSet) → reaches 60 s ≡ false → ¬ Over 59 s
 wide_not s e w =
     let q = and_parts (nat_lt s.plus (2 ^ 60)) (nat_lt s.minus (2 ^ 60)) (not-false _ e) in
     ⊎_elim (λ i. omega (arith, w.1, in_below 60 s.plus w.0 (ltb-true _ _ q.0) i)) (λ i. omega (arith, w.1, in_below 60 s.minus w.0 (ltb-true _ _ q.1) i)) w.2
@@ -294,7 +294,7 @@ right_trial e cs = cond_both (suited e cs) _ _ (Right cs)
     (λ s.
     let q = and_parts (not (wide_claim e)) (nat_le (length cs) 4 && all_ever cs) s in
     let k = and_parts (nat_le (length cs) 4) (all_ever cs) q.1 in
-    let w = or_parts (wide e.now) (wide e.next) (not-true _ q.0) in
+    let w = or_parts (reaches 60 e.now) (reaches 60 e.next) (not-true _ q.0) in
     cond_both (nat_lt 10 (atoms e cs)) _ _ (Right cs) (λ _. (omega arith, omega arith))
     (λ _. cond_both (countered (now_atoms e cs) (next_atoms e cs) (claimed e) cs) _ _ (Right cs) (λ _. (omega arith, omega arith))
     (λ f. (

@@ -3,11 +3,11 @@ ghost use Rattle.std.specs.Iterator.{at_most};
 ghost use Rattle.clause.specs.Tests.{Tells};
 ghost use Rattle.rules.specs.Books.{outcome_of, Tidy};
 ghost use Rattle.rules.specs.Trying.{claimed, Judged};
-ghost use Rattle.rules.specs.Deciding.{letters_of, now_atoms, next_atoms, is_ever, all_ever, wide_claim, broken_at, counter_at, Sub, NextSub, suited, late_trial, all_choices, GivesChoice, choices_left};
+ghost use Rattle.rules.specs.Deciding.{now_atoms, next_atoms, is_ever, all_ever, wide_claim, broken_at, counter_at, Sub, NextSub, suited, late_trial, all_choices, GivesChoice, choices_left};
 ghost use Rattle.rules.specs.TryingSound.{trying};
 ghost use Rattle.std.proofs.Common.{rules};
 
-use crate::book::{Masks, RuleBook};
+use crate::book::{globally, Masks, RuleBook};
 use clause::refusal::Refusal;
 use clause::syntax::{Clause, LitSet};
 
@@ -33,12 +33,6 @@ impl Claim {
     }
 }
 
-fn letters(s: LitSet) -> u64
-    ensures { result ≡ letters_of s }
-{
-    s.plus | s.minus
-}
-
 // The letters of a claim and its lines, now and next, as masks.
 #[derive(Clone, Copy)]
 struct Atoms {
@@ -54,10 +48,10 @@ impl Atoms {
         Atoms {
             now: cited
                 .iter()
-                .fold(letters(claim.now), |all, line| all | letters(line.now_set())),
+                .fold(claim.now.letters(), |all, line| all | line.now_set().letters()),
             next: cited
                 .iter()
-                .fold(letters(claim.next), |all, line| all | letters(line.next_set())),
+                .fold(claim.next.letters(), |all, line| all | line.next_set().letters()),
         }
     }
 
@@ -171,8 +165,7 @@ fn attempt(claim: Claim, cited: &[Clause]) -> Result<Masks, Refusal>
     if has_counter(claim, cited, atoms) {
         return Err(Refusal::Counterexample);
     }
-    let Claim { now, next } = claim;
-    Ok((false, now.plus, now.minus, next.plus, next.minus, 0))
+    Ok(globally(claim.now, claim.next, 0))
 }
 
 // A claim is accepted where each choice of its atoms and the lines' that breaks it breaks a cited line.

@@ -1,7 +1,7 @@
-use Rattle.std.proofs.Common.{true, false, length, sym, ap, ◌∙◌, arith, pow_pos}
+use Rattle.std.proofs.Common.{true, false, length, Ok, sym, ap, ◌∙◌, subst, arith, pow_pos}
 use Rattle.std.proofs.lemmas.Bool.{false≢true}
 use Rattle.clause.specs.Sets.{now_of, next_of}
-use Rattle.rules.specs.Books.{gives, globally}
+use Rattle.rules.specs.Books.{gives, globally, outcome_of, Tidy}
 use Rattle.rules.specs.Trying.{claimed}
 use Rattle.rules.proofs.Counting.{atoms_count}
 use Rattle.rules.proofs.Judging.{found, not_found, late_tried, late_many, all_here}
@@ -33,9 +33,10 @@ returns c =
     let e = c.args.claim in
     let cs = c.args.cited.now in
     let a = c.of-atoms.ensures in
+    let p = sym c.globally.ensures in
     record {
       answer = late_tried e cs false (sym c.if-not-suits.ensures) (omega (arith, atoms_count e cs _ _ (omega arith) (omega arith) a.now a.next))
           (not_found e cs _ _ a.now a.next c.if-has_counter.ensures)
-          ∙ ap (gives (globally e.now e.next)) (all_here (length cs));
-      tidy = (pow_pos (length cs), λ f. absurd (false≢true f));
+          ∙ ap (gives (globally e.now e.next)) (all_here (length cs)) ∙ ap (λ m. outcome_of (length cs) (Ok m)) p;
+      tidy = subst (λ m. Tidy (length cs) (Ok m)) p (pow_pos (length cs), λ f. absurd (false≢true f));
     }
