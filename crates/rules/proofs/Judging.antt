@@ -1,5 +1,5 @@
 -- A trial accepts just what follows, and refuses as refuted just what has a counterexample.
-use Rattle.std.proofs.Common.{◌≡◌, ℕ, zero, suc, ◌<◌, ◌≤◌, Bool, true, false, cond, not, ◌&&◌, ltb, leb, List, [], ◌∷◌, length, replicate, sym, refl, ap, ◌∙◌, subst, ⊎_elim, arith}
+use Rattle.std.proofs.Common.{◌≡◌, ℕ, zero, suc, ◌<◌, ◌≤◌, Bool, true, false, cond, not, ◌&&◌, ltb, leb, List, [], ◌∷◌, length, replicate, sym, refl, ap, ◌∙◌, subst, ⊎_elim}
 use Rattle.std.specs.List.{AllByRecursion}
 use Rattle.std.proofs.lemmas.Bool.{cond_both, cond-true, cond-false, and_parts, and_from, or_parts, or_from, not-true, not_from_false, ltb-false, le-ltb, lt-ltb, leb-true, le-leb, cases_Bool}
 use Rattle.clause.specs.declared.syntax.LitSet.{LitSet}
@@ -53,11 +53,11 @@ Means e cs (gives c ms) = Ready e cs × Follows cs (claimed e)
 
 means : (e : Claim) (cs : List Clause) → Means e cs (late_trial e cs)
 means e cs = cond_both (suited e cs) _ _ (Means e cs)
-    (λ s. cond_both (ltb 10 (atoms e cs)) _ _ (Means e cs) (λ _ q. let z : ◌≡◌ {A = ℕ} 0 1 = cc in absurd (omega arith))
+    (λ s. cond_both (ltb 10 (atoms e cs)) _ _ (Means e cs) (λ _ q. cc)
     (λ t. cond_both (countered (now_atoms e cs) (next_atoms e cs) (claimed e) cs) _ _ (Means e cs)
     (λ f _. (ready_from e cs s t, countered_from (now_atoms e cs) (next_atoms e cs) (claimed e) cs f))
     (λ f. (ready_from e cs s t, follows_from e cs f))))
-    (λ _ q. let z : ◌≡◌ {A = ℕ} 0 1 = cc in absurd (omega arith))
+    (λ _ q. cc)
 
 tried : (e : Claim) (cs : List Clause) → Ready e cs → (b : Bool) → countered (now_atoms e cs) (next_atoms e cs) (claimed e) cs ≡ b
     → late_trial e cs ≡ cond b (refuses Counterexample) (gives (globally e.now e.next) (replicate (length cs) here))

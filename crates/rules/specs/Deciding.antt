@@ -1,5 +1,5 @@
 -- How a trial is decided: choices as masks of the letters of which they say yes.
-use Rattle.std.specs.Prelude.{◌≡◌, ℕ, zero, suc, ◌+◌, ◌<◌, ◌≤◌, Bool, true, false, cond, not, ◌&&◌, ◌||◌, List, [], ◌∷◌, length, replicate, Some, None, Option, ◌==◌, bit_and, bit_or, nat_le, nat_lt, fold}
+use Rattle.std.specs.Prelude.{◌≡◌, ℕ, zero, suc, ◌+◌, ◌<◌, ◌≤◌, Bool, true, false, cond, not, ◌&&◌, ◌||◌, List, length, replicate, Some, None, Option, ◌==◌, bit_and, bit_or, nat_le, nat_lt, fold}
 use Rattle.std.specs.List.{list_any, list_all}
 use Rattle.clause.specs.declared.syntax.LitSet.{LitSet}
 use Rattle.clause.specs.declared.syntax.Clause.{Clause}

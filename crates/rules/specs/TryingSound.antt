@@ -4,8 +4,9 @@ use Rattle.std.proofs.Common.{sym, ap, subst, ◌∙◌, inl, inr, ⊎_elim, ari
 use Rattle.std.proofs.Math.Nat.{pow-succ'}
 use Rattle.std.specs.Int.Bits.{bit_and}
 use Rattle.std.proofs.lemmas.Nat.{and_le_l, and_le_r}
+use Rattle.std.proofs.lemmas.List.{length-replicate}
 use Rattle.std.specs.List.{AllByRecursion}
-use Rattle.std.proofs.lemmas.Bool.{cond_both, cond-true, and_parts, and_from, and_cases, or_cases, or_left, or_right, or_parts, not-true, not-false, not_from_false, eqb-true, eqb-false, eq-eqb, ltb-true, ltb-false, lt-ltb, cases_Bool, cases_lt, cases_eq, false≢true, both_ways}
+use Rattle.std.proofs.lemmas.Bool.{cond_both, cond-true, and_parts, and_from, and_cases, or_cases, or_left, or_right, or_parts, not-true, not-false, not_from_false, eqb-true, eqb-false, eq-eqb, ltb-true, ltb-false, lt-ltb, cases_Bool, cases_lt, cases_eq, both_ways}
 use Rattle.clause.specs.declared.syntax.LitSet.{LitSet}
 use Rattle.clause.specs.declared.syntax.Clause.{Clause}
 use Rattle.clause.specs.declared.syntax.Clause.TheVariants.{Initial, Global, Eventuality, Assumption, Never}
@@ -66,12 +67,10 @@ fails_from m x v s a g e k =
     )
 
 low : (p q : ℕ) → q < 2 → (q ≢ 1) → min p q ≡ 0
-low p q h n = ⊎_elim (λ e. absurd (n e)) (λ e. let z : q ≡ 0 = zero_of q h e in omega arith) (cases_eq q 1)
-  where
-    zero_of : (q : ℕ) → q < 2 → (q ≢ 1) → q ≡ 0
-    zero_of zero h n = refl
-    zero_of (suc zero) h n = absurd (n refl)
-    zero_of (suc (suc q)) h n = absurd (omega arith)
+low p q h n = omega arith
+
+low_left : (p q : ℕ) → p < 2 → (p ≢ 1) → min p q ≡ 0
+low_left p q h n = omega arith
 
 pub fails_to : (m x : ℕ) (v : Choice) (s : LitSet) → Among m s → Agrees m x v → Fails v s → untrue_at x s ≡ true
 fails_to m x v s a g f = and_from _ _
@@ -81,9 +80,6 @@ fails_to m x v s a g f = and_from _ _
     (λ h. low_left (bit s.plus k) (bit x k) (bit_lt s.plus k) h ∙ sym (zero_bit k))
     (cases_eq (bit s.plus k) 1))))
     (eq-eqb _ _ (within_to s.minus s.minus x (below_power s.minus) (λ k h. told (v k) (In k x) (g k ((a k).1 h)) ((f k).1 h))))
-  where
-    low_left : (p q : ℕ) → p < 2 → (p ≢ 1) → min p q ≡ 0
-    low_left p q h n = omega (arith, low q p h n)
 
 -- a mask and a choice break a line alike
 abbrev pub Alike : ℕ → ℕ → Choice → Choice → Clause → Type 0
@@ -96,7 +92,7 @@ alike m n x y v w c a b g h = (
 )
 
 one_from : (x y : ℕ) (v w : Choice) (cs : List Clause) → AllByRecursion (Alike x y v w) cs → one_broken_at x y cs ≡ true → BreaksOne v w cs
-one_from x y v w [] a e = false≢true e
+one_from x y v w [] a e = cc
 one_from x y v w (c ∷ cs) a e = ⊎_elim (λ h. inl (a.0.0 h)) (λ h. inr (one_from x y v w cs a.1 h)) (or_cases (broken_at x y c) (one_broken_at x y cs) e)
 
 one_to : (x y : ℕ) (v w : Choice) (cs : List Clause) → AllByRecursion (Alike x y v w) cs → BreaksOne v w cs → one_broken_at x y cs ≡ true
@@ -156,12 +152,8 @@ pub pick_le : (n a : ℕ) (v : Choice) → pick n a v ≤ a
 pick_le zero a v = omega arith
 pick_le (suc n) a v = omega (arith, part_le (v 0) (a % 2), pick_le n (a / 2) (λ k. v (suc k)))
 
-none_of : (b : Bool) (n : ℕ) → n ≡ 0 → 0 ≡ cond b n 0
-none_of true n e = sym e
-none_of false n e = refl
-
 pick_bit : (n a : ℕ) (v : Choice) (k : ℕ) → a < 2 ^ n → bit (pick n a v) k ≡ cond (v k) (bit a k) 0
-pick_bit zero a v k h = zero_bit k ∙ none_of (v k) (bit a k) (let z : a ≡ 0 = omega arith in ap (λ m. bit m k) z ∙ zero_bit k)
+pick_bit zero a v k h = zero_bit k ∙ cond_both (v k) (bit a k) 0 (λ m. 0 ≡ m) (λ _. let z : a ≡ 0 = omega arith in sym (ap (λ m. bit m k) z ∙ zero_bit k)) (λ _. refl)
 pick_bit (suc n) a v zero h = bit_zero (pick (suc n) a v) ∙ omega (arith, part_le (v 0) (a % 2)) ∙ ap (λ m. cond (v 0) m 0) (sym (bit_zero a))
 pick_bit (suc n) a v (suc k) h =
     let w = pow-succ' 2 n in
@@ -275,19 +267,15 @@ wide_not s e w =
     ⊎_elim (λ i. omega (arith, w.1, in_below 60 s.plus w.0 (ltb-true _ _ q.0) i)) (λ i. omega (arith, w.1, in_below 60 s.minus w.0 (ltb-true _ _ q.1) i)) w.2
 
 ever_from : (c : Clause) → is_ever c ≡ true → Ever c
-ever_from (Initial _) e = false≢true e
+ever_from (Initial _) e = cc
 ever_from (Global _ _) e = tt
-ever_from (Eventuality _ _) e = false≢true e
+ever_from (Eventuality _ _) e = cc
 ever_from (Assumption _) e = tt
-ever_from (Never _ _) e = false≢true e
+ever_from (Never _ _) e = cc
 
 pub all_from : (cs : List Clause) → all_ever cs ≡ true → AllByRecursion Ever cs
 all_from [] e = tt
 all_from (c ∷ cs) e = let q = and_parts (is_ever c) (all_ever cs) e in (ever_from c q.0, all_from cs q.1)
-
-length_here : (n : ℕ) → length (replicate n here) ≡ n
-length_here zero = refl
-length_here (suc n) = ap suc (length_here n)
 
 pub right_trial : (e : Claim) (cs : List Clause) → Right cs (late_trial e cs)
 right_trial e cs = cond_both (suited e cs) _ _ (Right cs)
@@ -298,7 +286,7 @@ right_trial e cs = cond_both (suited e cs) _ _ (Right cs)
     cond_both (nat_lt 10 (atoms e cs)) _ _ (Right cs) (λ _. (omega arith, omega arith))
     (λ _. cond_both (countered (now_atoms e cs) (next_atoms e cs) (claimed e) cs) _ _ (Right cs) (λ _. (omega arith, omega arith))
     (λ f. (
-      length_here (length cs),
+      length-replicate (length cs) here,
       (λ _. (wide_not e.now w.0, wide_not e.next w.1, λ h. omega arith)),
       follows_sound e cs (all_from cs k.1) (follows_from e cs f),
     ))))

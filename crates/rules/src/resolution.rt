@@ -4,7 +4,7 @@ ghost use Rattle.rules.specs.Resolving.{global_form, form_of, read_in, resolvent
 ghost use Rattle.rules.specs.ResolvingSound.{resolving};
 ghost use Rattle.std.proofs.Common.{rules};
 
-use crate::book::{globally, initially, Masks, RuleBook};
+use crate::book::{Masks, RuleBook, globally, initially};
 use clause::refusal::Refusal;
 use clause::syntax::{Clause, LitSet, Literal};
 

@@ -7,7 +7,7 @@ ghost use Rattle.rules.specs.Deciding.{now_atoms, next_atoms, is_ever, all_ever,
 ghost use Rattle.rules.specs.TryingSound.{trying};
 ghost use Rattle.std.proofs.Common.{rules};
 
-use crate::book::{globally, Masks, RuleBook};
+use crate::book::{Masks, RuleBook, globally};
 use clause::refusal::Refusal;
 use clause::syntax::{Clause, LitSet};
 
@@ -46,12 +46,14 @@ impl Atoms {
         ensures next { result.next ≡ next_atoms claim cited.now }
     {
         Atoms {
-            now: cited
-                .iter()
-                .fold(claim.now.letters(), |all, line| all | line.now_set().letters()),
-            next: cited
-                .iter()
-                .fold(claim.next.letters(), |all, line| all | line.next_set().letters()),
+            now: cited.iter().fold(
+                claim.now.letters(),
+                |all, line| all | line.now_set().letters(),
+            ),
+            next: cited.iter().fold(
+                claim.next.letters(),
+                |all, line| all | line.next_set().letters(),
+            ),
         }
     }
 
@@ -109,9 +111,10 @@ fn breaks(x: u64, y: u64, line: Clause) -> bool
 }
 
 // Does a choice of the atoms break the claim and none of the lines?
-fn has_counter(claim: Claim, cited: &[Clause], atoms: Atoms) -> bool
+fn has_counterexample(claim: Claim, cited: &[Clause], atoms: Atoms) -> bool
     ensures { Tells result ((y : ℕ) × Sub y atoms.next × (x : ℕ) × Sub x atoms.now × (counter_at x y (claimed claim) cited.now ≡ true)) }
 {
+    // By a rule of the project the choices and the lines are searched by loops, which a label leaves.
     for y in Choices::among(atoms.next) {
         'choices: for x in Choices::among(atoms.now) {
             if !breaks(x, y, claim.clause()) {
@@ -162,7 +165,7 @@ fn attempt(claim: Claim, cited: &[Clause]) -> Result<Masks, Refusal>
     if atoms.count() > MOST_ATOMS {
         return Err(Refusal::TooManyAtoms);
     }
-    if has_counter(claim, cited, atoms) {
+    if has_counterexample(claim, cited, atoms) {
         return Err(Refusal::Counterexample);
     }
     Ok(globally(claim.now, claim.next, 0))

@@ -1,4 +1,4 @@
-use Rattle.std.proofs.Common.{◌≡◌, ◌-◌, Some, sym, subst, arith}
+use Rattle.std.proofs.Common.{Some, sym, subst, arith}
 use lib.Bits.{bit_and}
 use Rattle.rules.specs.Deciding.{NextSub}
 use Rattle.rules.proofs.Choosing.{next_sub}

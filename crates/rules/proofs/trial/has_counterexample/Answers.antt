@@ -1,10 +1,10 @@
-use Rattle.std.proofs.Common.{◌≡◌, ℕ, false, not, sym, ap, ◌∙◌}
+use Rattle.std.proofs.Common.{◌≡◌, false, not, sym, ap, ◌∙◌}
 use Rattle.std.proofs.lemmas.Bool.{and_left, and_right, not_from_true}
 use Rattle.std.proofs.lemmas.List.Folds.{list_any_at}
 use Rattle.rules.specs.Trying.{claimed}
-use Rattle.rules.specs.Deciding.{Sub, broken_at, one_broken_at, counter_at, all_choices}
+use Rattle.rules.specs.Deciding.{broken_at, one_broken_at, counter_at, all_choices}
 use Rattle.rules.proofs.Choosing.{done_start, done_more}
-use Rattle.rules.proofs.trial.has_counter.Goals as goal
+use Rattle.rules.proofs.trial.has_counterexample.Goals as goal
 
 pub loop-y-init : goal.loop-y-init
 loop-y-init c = let e : c.into_iter-y-iterator.result ≡ all_choices c.args.atoms.next = cc in done_start c.args.atoms.next _ _ e

@@ -2,7 +2,7 @@ use Rattle.std.proofs.Common.{◌≡◌, ℕ, false, take}
 use Rattle.rules.specs.Trying.{claimed}
 use Rattle.rules.specs.Deciding.{Sub, counter_at, one_broken_at}
 use Rattle.rules.proofs.Choosing.{Done}
-use Rattle.rules.proofs.trial.has_counter.Given as goal
+use Rattle.rules.proofs.trial.has_counterexample.Given as goal
 
 -- no line so far is broken
 abbrev pub invariant-loop-line : goal.invariant-loop-line
