@@ -18,21 +18,21 @@ abbrev pub is_empty : LitSet → Bool
 is_empty s = s.plus == 0 && s.minus == 0
 
 -- the forms of lines
-abbrev pub global_form : LitSet → Form
-global_form x = cond (is_empty x) NowOnly WithNext
+abbrev pub global_form : LitSet → LitSet → Form
+global_form n x = cond (is_empty x) (NowOnly n) (WithNext n x)
 
 abbrev pub form_of : Clause → Option Form
-form_of (Initial _) = Some AtFirst
-form_of (Global _ x) = Some (global_form x)
+form_of (Initial n) = Some (AtFirst n)
+form_of (Global n x) = Some (global_form n x)
 form_of (Eventuality _ _) = None
-form_of (Assumption x) = Some (global_form x)
+form_of (Assumption x) = Some (global_form none x)
 form_of (Never _ _) = None
 
 -- the set in which the literal is looked for
-abbrev pub read_in : Form → Clause → LitSet
-read_in AtFirst c = now_of c
-read_in NowOnly c = now_of c
-read_in WithNext c = next_of c
+abbrev pub read_in : Form → LitSet
+read_in (AtFirst n) = n
+read_in (NowOnly n) = n
+read_in (WithNext n x) = x
 
 abbrev pub with_sign : Bool → ℕ → Literal
 with_sign b k = record { letter = k; positive = b }
@@ -47,33 +47,33 @@ clash k s t = bit s.plus k == 1 && bit t.minus k == 1
 abbrev pub resolvent_of : ℕ → LitSet → LitSet → Option LitSet
 resolvent_of k s t = cond (clash k s t) (Some (rest_of k s t)) None
 
--- the conclusion from two lines of these forms and now sets
-abbrev pub settled : Form → Form → LitSet → LitSet → Option LitSet → Outcome
-settled AtFirst AtFirst m n (Some s) = gives (initially s) (here ∷ here ∷ [])
-settled AtFirst AtFirst m n None = refuses LacksLiteral
-settled AtFirst NowOnly m n (Some s) = gives (initially s) (here ∷ here ∷ [])
-settled AtFirst NowOnly m n None = refuses LacksLiteral
-settled AtFirst WithNext m n _ = refuses InitialMeetsNext
-settled NowOnly AtFirst m n (Some s) = gives (initially s) (here ∷ here ∷ [])
-settled NowOnly AtFirst m n None = refuses LacksLiteral
-settled NowOnly NowOnly m n (Some s) = gives (globally s none) (here ∷ here ∷ [])
-settled NowOnly NowOnly m n None = refuses LacksLiteral
-settled NowOnly WithNext m n (Some s) = gives (globally n s) (everywhere ∷ here ∷ [])
-settled NowOnly WithNext m n None = refuses LacksLiteral
-settled WithNext AtFirst m n _ = refuses InitialMeetsNext
-settled WithNext NowOnly m n (Some s) = gives (globally m s) (here ∷ everywhere ∷ [])
-settled WithNext NowOnly m n None = refuses LacksLiteral
-settled WithNext WithNext m n (Some s) = gives (globally (m ∪ n) s) (here ∷ here ∷ [])
-settled WithNext WithNext m n None = refuses LacksLiteral
+-- the conclusion from two lines of these forms, with what is left of the sets read
+abbrev pub settled : Form → Form → Option LitSet → Outcome
+settled (AtFirst m) (AtFirst n) (Some s) = gives (initially s) (here ∷ here ∷ [])
+settled (AtFirst m) (AtFirst n) None = refuses LacksLiteral
+settled (AtFirst m) (NowOnly n) (Some s) = gives (initially s) (here ∷ here ∷ [])
+settled (AtFirst m) (NowOnly n) None = refuses LacksLiteral
+settled (AtFirst m) (WithNext n _) _ = refuses InitialMeetsNext
+settled (NowOnly m) (AtFirst n) (Some s) = gives (initially s) (here ∷ here ∷ [])
+settled (NowOnly m) (AtFirst n) None = refuses LacksLiteral
+settled (NowOnly m) (NowOnly n) (Some s) = gives (globally s none) (here ∷ here ∷ [])
+settled (NowOnly m) (NowOnly n) None = refuses LacksLiteral
+settled (NowOnly m) (WithNext n _) (Some s) = gives (globally n s) (everywhere ∷ here ∷ [])
+settled (NowOnly m) (WithNext n _) None = refuses LacksLiteral
+settled (WithNext m _) (AtFirst n) _ = refuses InitialMeetsNext
+settled (WithNext m _) (NowOnly n) (Some s) = gives (globally m s) (here ∷ everywhere ∷ [])
+settled (WithNext m _) (NowOnly n) None = refuses LacksLiteral
+settled (WithNext m _) (WithNext n _) (Some s) = gives (globally (m ∪ n) s) (here ∷ here ∷ [])
+settled (WithNext m _) (WithNext n _) None = refuses LacksLiteral
 
-abbrev pub by_forms : ℕ → Clause → Clause → Option Form → Option Form → Outcome
-by_forms k x y (Some f) (Some g) = settled f g (now_of x) (now_of y) (resolvent_of k (read_in f x) (read_in g y))
-by_forms k x y (Some f) None = refuses WrongKind
-by_forms k x y None (Some g) = refuses WrongKind
-by_forms k x y None None = refuses WrongKind
+abbrev pub by_forms : ℕ → Option Form → Option Form → Outcome
+by_forms k (Some f) (Some g) = settled f g (resolvent_of k (read_in f) (read_in g))
+by_forms k (Some f) None = refuses WrongKind
+by_forms k None (Some g) = refuses WrongKind
+by_forms k None None = refuses WrongKind
 
 abbrev pub pair_of : ℕ → Clause → Clause → Outcome
-pair_of k x y = by_forms k x y (form_of x) (form_of y)
+pair_of k x y = by_forms k (form_of x) (form_of y)
 
 -- what the cited clauses come to; early lets just two through
 abbrev pub late_of : ℕ → List Clause → Outcome

@@ -6,7 +6,7 @@ use Rattle.clause.specs.declared.syntax.LitSet.{LitSet}
 use Rattle.clause.specs.declared.syntax.Clause.{Clause}
 use Rattle.clause.specs.declared.syntax.Clause.TheVariants.{Initial, Global, Eventuality, Assumption, Never}
 use Rattle.clause.specs.declared.refusal.Refusal.{Refusal}
-use Rattle.clause.specs.declared.refusal.Refusal.TheVariants.{LetterRange, WrongCount}
+use Rattle.clause.specs.declared.refusal.Refusal.TheVariants.{LetterRange, WrongCount, LacksLiteral}
 use Rattle.clause.specs.Bit.{bit, In}
 use Rattle.clause.specs.Meaning.{Run, LetterTrue, Untrue, Unbroken, none, just, ◌∪◌}
 use Rattle.clause.specs.Sets.{Over, ◌∖◌, now_of, next_of}
@@ -14,7 +14,7 @@ use Rattle.clause.proofs.Masks.{bit_less, bit_lt, bit_pow_other, zero_bit, not_i
 use Rattle.clause.proofs.Truths.{untrue_left, untrue_right, untrue_none}
 use Rattle.rules.specs.declared.resolution.Form.{Form}
 use Rattle.rules.specs.declared.resolution.Form.TheVariants.{AtFirst, NowOnly, WithNext}
-use Rattle.rules.specs.Books.{Consult}
+use Rattle.rules.specs.Books.{Consult, here, initially, refuses, gives}
 use Rattle.rules.specs.BookLaws.{Right, right_sound, Early}
 use Rattle.rules.specs.Resolving.{is_empty, form_of, read_in, with_sign, rest_of, clash, resolvent_of, settled, by_forms, late_of, early_of}
 
@@ -62,13 +62,13 @@ low_rest : (n k : ℕ) (s t : LitSet) → (¬ Over n s) → (¬ Over n t) → ¬
 low_rest n k s t h g = low_union n (s ∖ just (with_sign true k)) (t ∖ just (with_sign false k)) (low_less n s (just (with_sign true k)) h) (low_less n t (just (with_sign false k)) g)
 
 -- what a line of each form says where it is not broken
-abbrev Says : Form → Clause → Type 0
-Says AtFirst c = (r : Run) (i : ℕ) → Unbroken r i c → i ≡ 0 → ¬ Untrue r i (now_of c)
-Says NowOnly c = (r : Run) (i : ℕ) → Unbroken r i c → ¬ Untrue r i (now_of c)
-Says WithNext c = (r : Run) (i : ℕ) → Unbroken r i c → Untrue r i (now_of c) → ¬ Untrue r (i + 1) (next_of c)
+data Says (c : Clause) : Form → Type 0 where
+  at_first : ((r : Run) (i : ℕ) → Unbroken r i c → i ≡ 0 → ¬ Untrue r i (now_of c)) → Says c (AtFirst (now_of c))
+  now_only : ((r : Run) (i : ℕ) → Unbroken r i c → ¬ Untrue r i (now_of c)) → Says c (NowOnly (now_of c))
+  with_next : ((r : Run) (i : ℕ) → Unbroken r i c → Untrue r i (now_of c) → ¬ Untrue r (i + 1) (next_of c)) → Says c (WithNext (now_of c) (next_of c))
 
 abbrev SaysIf : Option Form → Clause → Type 0
-SaysIf (Some f) c = Says f c
+SaysIf (Some f) c = Says c f
 SaysIf None c = Unit {0}
 
 pub empty_is : (x : LitSet) → is_empty x ≡ true → x ≡ none
@@ -78,70 +78,58 @@ untrue_empty : (r : Run) (i : ℕ) (x : LitSet) → is_empty x ≡ true → Untr
 untrue_empty r i x e = subst (Untrue r i) (sym (empty_is x e)) (untrue_none r i)
 
 says : (c : Clause) → SaysIf (form_of c) c
-says (Initial s) = λ r i u z b. u (z, b)
-says (Global n x) = cond_both (is_empty x) NowOnly WithNext (λ f. Says f (Global n x)) (λ e r i u b. u (b, untrue_empty r (i + 1) x e)) (λ e r i u b d. u (b, d))
+says (Initial s) = at_first (λ r i u z b. u (z, b))
+says (Global n x) = cond_both (is_empty x) (NowOnly n) (WithNext n x) (Says (Global n x)) (λ e. now_only (λ r i u b. u (b, untrue_empty r (i + 1) x e))) (λ e. with_next (λ r i u b d. u (b, d)))
 says (Eventuality _ _) = tt
-says (Assumption x) = cond_both (is_empty x) NowOnly WithNext (λ f. Says f (Assumption x)) (λ e r i u b. u (untrue_empty r (i + 1) x e)) (λ e r i u b d. u d)
+says (Assumption x) = cond_both (is_empty x) (NowOnly none) (WithNext none x) (Says (Assumption x)) (λ e. now_only (λ r i u b. u (untrue_empty r (i + 1) x e))) (λ e. with_next (λ r i u b d. u d))
 says (Never _ _) = tt
 
 plain_literal : ¬ (19 < 0)
 plain_literal h = omega arith
 
-right_settled : (k : ℕ) (f g : Form) (x y : Clause) → Says f x → Says g y → Right (x ∷ y ∷ []) (settled f g (now_of x) (now_of y) (resolvent_of k (read_in f x) (read_in g y)))
-right_settled k AtFirst AtFirst x y p q = cond_both (clash k (now_of x) (now_of y)) _ _ (λ o. Right (x ∷ y ∷ []) (settled AtFirst AtFirst (now_of x) (now_of y) o))
-    (λ _. (
-      refl,
-      (λ a. (low_rest 59 k (now_of x) (now_of y) a.0.0 a.1.0.0, low_none 59, plain_literal)),
-      λ r i u b. resolve_untrue r i k (now_of x) (now_of y) b.1 (p r i u.0 b.0) (q r i u.1.0 b.0),
-    ))
-    (λ _. (omega arith, omega arith))
-right_settled k AtFirst NowOnly x y p q = cond_both (clash k (now_of x) (now_of y)) _ _ (λ o. Right (x ∷ y ∷ []) (settled AtFirst NowOnly (now_of x) (now_of y) o))
-    (λ _. (
-      refl,
-      (λ a. (low_rest 59 k (now_of x) (now_of y) a.0.0 a.1.0.0, low_none 59, plain_literal)),
-      λ r i u b. resolve_untrue r i k (now_of x) (now_of y) b.1 (p r i u.0 b.0) (q r i u.1.0),
-    ))
-    (λ _. (omega arith, omega arith))
-right_settled k AtFirst WithNext x y p q = (omega arith, omega arith)
-right_settled k NowOnly AtFirst x y p q = cond_both (clash k (now_of x) (now_of y)) _ _ (λ o. Right (x ∷ y ∷ []) (settled NowOnly AtFirst (now_of x) (now_of y) o))
-    (λ _. (
-      refl,
-      (λ a. (low_rest 59 k (now_of x) (now_of y) a.0.0 a.1.0.0, low_none 59, plain_literal)),
-      λ r i u b. resolve_untrue r i k (now_of x) (now_of y) b.1 (p r i u.0) (q r i u.1.0 b.0),
-    ))
-    (λ _. (omega arith, omega arith))
-right_settled k NowOnly NowOnly x y p q = cond_both (clash k (now_of x) (now_of y)) _ _ (λ o. Right (x ∷ y ∷ []) (settled NowOnly NowOnly (now_of x) (now_of y) o))
-    (λ _. (
-      refl,
-      (λ a. (low_rest 59 k (now_of x) (now_of y) a.0.0 a.1.0.0, low_none 59, plain_literal)),
-      λ r i u b. resolve_untrue r i k (now_of x) (now_of y) b.0 (p r i u.0) (q r i u.1.0),
-    ))
-    (λ _. (omega arith, omega arith))
-right_settled k NowOnly WithNext x y p q = cond_both (clash k (now_of x) (next_of y)) _ _ (λ o. Right (x ∷ y ∷ []) (settled NowOnly WithNext (now_of x) (now_of y) o))
-    (λ _. (
-      refl,
-      (λ a. (a.1.0.0, low_rest 59 k (now_of x) (next_of y) a.0.0 a.1.0.1, plain_literal)),
-      λ r i u b. resolve_untrue r (i + 1) k (now_of x) (next_of y) b.1 (p r (i + 1) (u.0 (i + 1))) (q r i u.1.0 b.0),
-    ))
-    (λ _. (omega arith, omega arith))
-right_settled k WithNext AtFirst x y p q = (omega arith, omega arith)
-right_settled k WithNext NowOnly x y p q = cond_both (clash k (next_of x) (now_of y)) _ _ (λ o. Right (x ∷ y ∷ []) (settled WithNext NowOnly (now_of x) (now_of y) o))
-    (λ _. (
-      refl,
-      (λ a. (a.0.0, low_rest 59 k (next_of x) (now_of y) a.0.1 a.1.0.0, plain_literal)),
-      λ r i u b. resolve_untrue r (i + 1) k (next_of x) (now_of y) b.1 (p r i u.0 b.0) (q r (i + 1) (u.1.0 (i + 1))),
-    ))
-    (λ _. (omega arith, omega arith))
-right_settled k WithNext WithNext x y p q = cond_both (clash k (next_of x) (next_of y)) _ _ (λ o. Right (x ∷ y ∷ []) (settled WithNext WithNext (now_of x) (now_of y) o))
-    (λ _. (
-      refl,
-      (λ a. (low_union 59 (now_of x) (now_of y) a.0.0 a.1.0.0, low_rest 59 k (next_of x) (next_of y) a.0.1 a.1.0.1, plain_literal)),
-      λ r i u b. resolve_untrue r (i + 1) k (next_of x) (next_of y) b.1 (p r i u.0 (untrue_left r i (now_of x) (now_of y) b.0)) (q r i u.1.0 (untrue_right r i (now_of x) (now_of y) b.0)),
-    ))
-    (λ _. (omega arith, omega arith))
+-- a conclusion at the first moment, from now sets of which one is true then
+right_initial : (k : ℕ) (x y : Clause) → ((r : Run) (i : ℕ) → Unbroken r i x → i ≡ 0 → ¬ Untrue r i (now_of x)) → ((r : Run) (i : ℕ) → Unbroken r i y → i ≡ 0 → ¬ Untrue r i (now_of y))
+    → Right (x ∷ y ∷ []) (gives (initially (rest_of k (now_of x) (now_of y))) (here ∷ here ∷ []))
+right_initial k x y p q = (
+  refl,
+  (λ a. (low_rest 59 k (now_of x) (now_of y) a.0.0 a.1.0.0, low_none 59, plain_literal)),
+  λ r i u b. resolve_untrue r i k (now_of x) (now_of y) b.1 (p r i u.0 b.0) (q r i u.1.0 b.0),
+)
 
-right_forms : (k : ℕ) (x y : Clause) (f g : Option Form) → SaysIf f x → SaysIf g y → Right (x ∷ y ∷ []) (by_forms k x y f g)
-right_forms k x y (Some f) (Some g) p q = right_settled k f g x y p q
+-- what is right where two sets clash is right
+right_clash : (k : ℕ) (x y : Clause) (f g : Form) → settled f g None ≡ refuses LacksLiteral → Right (x ∷ y ∷ []) (settled f g (Some (rest_of k (read_in f) (read_in g))))
+    → Right (x ∷ y ∷ []) (settled f g (resolvent_of k (read_in f) (read_in g)))
+right_clash k x y f g e h = cond_both (clash k (read_in f) (read_in g)) _ _ (λ o. Right (x ∷ y ∷ []) (settled f g o)) (λ _. h) (λ _. subst (Right (x ∷ y ∷ [])) (sym e) (omega arith, omega arith))
+
+right_settled : (k : ℕ) (x y : Clause) (f g : Form) → Says x f → Says y g → Right (x ∷ y ∷ []) (settled f g (resolvent_of k (read_in f) (read_in g)))
+right_settled k x y f g (at_first p) (at_first q) = right_clash k x y (AtFirst (now_of x)) (AtFirst (now_of y)) refl (right_initial k x y p q)
+right_settled k x y f g (at_first p) (now_only q) = right_clash k x y (AtFirst (now_of x)) (NowOnly (now_of y)) refl (right_initial k x y p (λ r i u _. q r i u))
+right_settled k x y f g (at_first p) (with_next q) = (omega arith, omega arith)
+right_settled k x y f g (now_only p) (at_first q) = right_clash k x y (NowOnly (now_of x)) (AtFirst (now_of y)) refl (right_initial k x y (λ r i u _. p r i u) q)
+right_settled k x y f g (now_only p) (now_only q) = right_clash k x y (NowOnly (now_of x)) (NowOnly (now_of y)) refl (
+  refl,
+  (λ a. (low_rest 59 k (now_of x) (now_of y) a.0.0 a.1.0.0, low_none 59, plain_literal)),
+  λ r i u b. resolve_untrue r i k (now_of x) (now_of y) b.0 (p r i u.0) (q r i u.1.0),
+)
+right_settled k x y f g (now_only p) (with_next q) = right_clash k x y (NowOnly (now_of x)) (WithNext (now_of y) (next_of y)) refl (
+  refl,
+  (λ a. (a.1.0.0, low_rest 59 k (now_of x) (next_of y) a.0.0 a.1.0.1, plain_literal)),
+  λ r i u b. resolve_untrue r (i + 1) k (now_of x) (next_of y) b.1 (p r (i + 1) (u.0 (i + 1))) (q r i u.1.0 b.0),
+)
+right_settled k x y f g (with_next p) (at_first q) = (omega arith, omega arith)
+right_settled k x y f g (with_next p) (now_only q) = right_clash k x y (WithNext (now_of x) (next_of x)) (NowOnly (now_of y)) refl (
+  refl,
+  (λ a. (a.0.0, low_rest 59 k (next_of x) (now_of y) a.0.1 a.1.0.0, plain_literal)),
+  λ r i u b. resolve_untrue r (i + 1) k (next_of x) (now_of y) b.1 (p r i u.0 b.0) (q r (i + 1) (u.1.0 (i + 1))),
+)
+right_settled k x y f g (with_next p) (with_next q) = right_clash k x y (WithNext (now_of x) (next_of x)) (WithNext (now_of y) (next_of y)) refl (
+  refl,
+  (λ a. (low_union 59 (now_of x) (now_of y) a.0.0 a.1.0.0, low_rest 59 k (next_of x) (next_of y) a.0.1 a.1.0.1, plain_literal)),
+  λ r i u b. resolve_untrue r (i + 1) k (next_of x) (next_of y) b.1 (p r i u.0 (untrue_left r i (now_of x) (now_of y) b.0)) (q r i u.1.0 (untrue_right r i (now_of x) (now_of y) b.0)),
+)
+
+right_forms : (k : ℕ) (x y : Clause) (f g : Option Form) → SaysIf f x → SaysIf g y → Right (x ∷ y ∷ []) (by_forms k f g)
+right_forms k x y (Some f) (Some g) p q = right_settled k x y f g p q
 right_forms k x y (Some f) None p q = (omega arith, omega arith)
 right_forms k x y None (Some g) p q = (omega arith, omega arith)
 right_forms k x y None None p q = (omega arith, omega arith)

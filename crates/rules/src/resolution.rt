@@ -8,25 +8,25 @@ use crate::book::{Masks, RuleBook, globally, initially};
 use clause::refusal::Refusal;
 use clause::syntax::{Clause, LitSet, Literal};
 
-// How a resolution reads a line.
+// How a resolution reads a line, with the sets that the line says.
 #[derive(Clone, Copy)]
 enum Form {
     // an initial line
-    AtFirst,
+    AtFirst(LitSet),
     // a global line that says nothing of the next moment
-    NowOnly,
+    NowOnly(LitSet),
     // a global line with a literal at the next moment
-    WithNext,
+    WithNext(LitSet, LitSet),
 }
 
 impl Form {
-    fn of_next(next: LitSet) -> Form
-        ensures { result ≡ global_form next }
+    fn of_global(now: LitSet, next: LitSet) -> Form
+        ensures { result ≡ global_form now next }
     {
         if next.is_none() {
-            Form::NowOnly
+            Form::NowOnly(now)
         } else {
-            Form::WithNext
+            Form::WithNext(now, next)
         }
     }
 
@@ -34,19 +34,20 @@ impl Form {
         ensures { result ≡ form_of line }
     {
         match line {
-            Clause::Initial(_) => Some(Form::AtFirst),
-            Clause::Global(_, x) | Clause::Assumption(x) => Some(Form::of_next(x)),
+            Clause::Initial(now) => Some(Form::AtFirst(now)),
+            Clause::Global(now, next) => Some(Form::of_global(now, next)),
+            Clause::Assumption(next) => Some(Form::of_global(LitSet::NONE, next)),
             _ => None,
         }
     }
 
-    // The set of a line of this form in which the literal is looked for.
-    fn read(self, line: Clause) -> LitSet
-        ensures { result ≡ read_in self line }
+    // The set in which the literal is looked for.
+    fn read(self) -> LitSet
+        ensures { result ≡ read_in self }
     {
         match self {
-            Form::WithNext => line.next_set(),
-            _ => line.now_set(),
+            Form::AtFirst(now) | Form::NowOnly(now) => now,
+            Form::WithNext(_, next) => next,
         }
     }
 }
@@ -68,21 +69,23 @@ fn resolvent(k: u8, s: LitSet, t: LitSet) -> Option<LitSet>
     clash.then_some(rest)
 }
 
-// The conclusion from two lines of these forms and now sets, with what is left of the sets read.
-fn settle(f: Form, g: Form, m: LitSet, n: LitSet, left: Option<LitSet>) -> Result<Masks, Refusal>
-    ensures answer { settled f g m n left ≡ outcome_of 2 result }
+// The conclusion from two lines of these forms, with what is left of the sets read.
+fn settle(f: Form, g: Form, left: Option<LitSet>) -> Result<Masks, Refusal>
+    ensures answer { settled f g left ≡ outcome_of 2 result }
     ensures tidy { Tidy 2 result }
 {
-    if let (Form::AtFirst, Form::WithNext) | (Form::WithNext, Form::AtFirst) = (f, g) {
+    if let (Form::AtFirst(_), Form::WithNext(_, _)) | (Form::WithNext(_, _), Form::AtFirst(_)) = (
+        f, g,
+    ) {
         return Err(Refusal::InitialMeetsNext);
     }
     let s = left.ok_or(Refusal::LacksLiteral)?;
     Ok(match (f, g) {
-        (Form::AtFirst, _) | (_, Form::AtFirst) => initially(s),
-        (Form::NowOnly, Form::NowOnly) => globally(s, LitSet::NONE, 0),
-        (Form::WithNext, Form::WithNext) => globally(m.union(n), s, 0),
-        (Form::WithNext, Form::NowOnly) => globally(m, s, 2),
-        (Form::NowOnly, Form::WithNext) => globally(n, s, 1),
+        (Form::AtFirst(_), _) | (_, Form::AtFirst(_)) => initially(s),
+        (Form::NowOnly(_), Form::NowOnly(_)) => globally(s, LitSet::NONE, 0),
+        (Form::WithNext(m, _), Form::WithNext(n, _)) => globally(m.union(n), s, 0),
+        (Form::WithNext(m, _), Form::NowOnly(_)) => globally(m, s, 2),
+        (Form::NowOnly(_), Form::WithNext(n, _)) => globally(n, s, 1),
     })
 }
 
@@ -93,13 +96,7 @@ fn resolve(k: u8, x: Clause, y: Clause) -> Result<Masks, Refusal>
 {
     let f = Form::of(x).ok_or(Refusal::WrongKind)?;
     let g = Form::of(y).ok_or(Refusal::WrongKind)?;
-    settle(
-        f,
-        g,
-        x.now_set(),
-        y.now_set(),
-        resolvent(k, f.read(x), g.read(y)),
-    )
+    settle(f, g, resolvent(k, f.read(), g.read()))
 }
 
 // Two lines, the first with +k and the second with -k, give what is left of them. The evidence is the letter k.

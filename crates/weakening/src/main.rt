@@ -8,7 +8,7 @@ mod weaken;
 use crate::weaken::Weaken;
 use case::stage::Intake;
 use clause::refusal::Fault;
-use clause::syntax::{Clause, LitSet};
+use clause::syntax::{Clause, LitSet, Literal};
 use lines::line::Line;
 use std::io;
 
@@ -32,11 +32,18 @@ fn play(
     sealed.refute(table, n, row)
 }
 
+fn plus(letter: u8) -> LitSet {
+    LitSet::of(Literal {
+        letter,
+        positive: true,
+    })
+}
+
 fn tell(rt: HostRuntime, name: &str, cite: u16, more: LitSet) -> io::Result<()> {
     let mut table = [Line::blank(); 1000];
     let mut row = [0; 200];
     let a = Clause::Initial(LitSet::NONE);
-    let b = Clause::Global(LitSet { plus: 1, minus: 0 }, LitSet::NONE);
+    let b = Clause::Global(plus(0), LitSet::NONE);
     match play(&mut table, &mut row, a, b, cite, more, 3) {
         Ok(count) => println!(rt; "{name}: contradiction, core of {count}: line {}", row[0])?,
         Err(f) => println!(rt; "{name}: refused {}", f.number())?,
@@ -46,16 +53,8 @@ fn tell(rt: HostRuntime, name: &str, cite: u16, more: LitSet) -> io::Result<()> 
 
 fn main(rt: HostRuntime) -> io::Result<()> {
     tell(rt, "by nothing", 1, LitSet::NONE)?;
-    tell(rt, "by +3", 1, LitSet { plus: 8, minus: 0 })?;
-    tell(
-        rt,
-        "by +60",
-        1,
-        LitSet {
-            plus: 1 << 60,
-            minus: 0,
-        },
-    )?;
+    tell(rt, "by +3", 1, plus(3))?;
+    tell(rt, "by +60", 1, plus(60))?;
     tell(rt, "a global line", 2, LitSet::NONE)?;
     Ok(())
 }
