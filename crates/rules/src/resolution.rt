@@ -74,9 +74,11 @@ fn settle(f: Form, g: Form, left: Option<LitSet>) -> Result<Masks, Refusal>
     ensures answer { settled f g left ≡ outcome_of 2 result }
     ensures tidy { Tidy 2 result }
 {
-    if let (Form::AtFirst(_), Form::WithNext(_, _)) | (Form::WithNext(_, _), Form::AtFirst(_)) = (
-        f, g,
-    ) {
+    let initial_meets_next = matches!(
+        (f, g),
+        (Form::AtFirst(_), Form::WithNext(..)) | (Form::WithNext(..), Form::AtFirst(_))
+    );
+    if initial_meets_next {
         return Err(Refusal::InitialMeetsNext);
     }
     let s = left.ok_or(Refusal::LacksLiteral)?;

@@ -5,7 +5,7 @@ ghost use Rattle.std.proofs.Common.{rules};
 
 use clause::refusal::Refusal;
 use clause::syntax::{Clause, LitSet};
-use rules::book::{initially, Masks, RuleBook};
+use rules::book::{Masks, RuleBook, initially};
 
 // An initial line with the literals of the evidence too.
 fn weaker(line: Clause, evidence: LitSet) -> Result<Masks, Refusal>
