@@ -75,3 +75,22 @@ pub fn sentence(heap: Global, f: Fault) -> Result<String, AllocError>
 {
     Explained(f).to_string(heap)
 }
+
+#[cfg(test)]
+mod tests {
+    use super::*;
+    use std::test::Fail;
+
+    #[test]
+    fn a_broken_line_is_told_with_its_moment(rt: HostRuntime) -> Result<(), Fail> {
+        let fault = Fault {
+            refusal: Refusal::RunBreaks,
+            line: 2,
+            field: 0,
+            detail: 10,
+        };
+        let why = sentence(rt.alloc(), fault)?;
+        assert_eq!(rt; why.as_str(), "line 2, moment 10: the run breaks a given line");
+        Ok(())
+    }
+}

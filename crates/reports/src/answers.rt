@@ -7,7 +7,7 @@ use clause::refusal::Fault;
 use text::stage::Verdict;
 
 impl<'a> Report<'a> {
-    // The report of a case text, from its answer and the row as it was left.
+    // The report of a case text, from its answer and the row as it was left: two values, so no `From`.
     pub fn of_case(answer: Result<(Sealed, Verdict), Fault>, row: &'a [u16]) -> Report<'a>
         ensures { Tells answer row.now result }
     {

@@ -62,3 +62,18 @@ pub fn report_line(heap: Global, report: Report) -> Result<String, AllocError>
 {
     report.to_string(heap)
 }
+
+#[cfg(test)]
+mod tests {
+    use super::*;
+    use std::test::Fail;
+
+    #[test]
+    fn a_core_is_parted_by_spaces(rt: HostRuntime) -> Result<(), Fail> {
+        let row = [4u16, 7, 9];
+        let report = Report::Case(Verdict::Contradiction(13, 2), &row);
+        let line = report_line(rt.alloc(), report)?;
+        assert_eq!(rt; line.as_str(), "contradiction\t13\t4 7");
+        Ok(())
+    }
+}
