@@ -90,7 +90,10 @@ mod tests {
             detail: 10,
         };
         let why = sentence(rt.alloc(), fault)?;
-        assert_eq!(rt; why.as_str(), "line 2, moment 10: the run breaks a given line");
+        assert_eq!(rt;
+            why.as_str(),
+            "line 2, moment 10: the run breaks a given line"
+        );
         Ok(())
     }
 }
