@@ -10,7 +10,8 @@ use std::process::ExitCode;
 use std::{env, io};
 use text::cases::read_case;
 
-const HELP: &str = "casecheck [CASE]\n\nJudges the case text CASE (case.txt).\nA file that cannot be opened is read as a text without bytes.\n\nPrints one line, its fields parted by tabs:\n  contradiction LINE CORE               the line refuted last, and the given lines to blame\n  open LAST                             nothing refuted; the number of the last line\n  refused NUMBER LAYER LINE FIELD DETAIL  and says why on standard error\n\nEnds with 0, or with 1 if the text is refused.";
+const HELP: &str =
+    "casecheck [CASE]\n\nJudges the case text CASE (case.txt).\nA file that cannot be opened is read as a text without bytes.\n\nPrints one line, its fields parted by tabs:\n  contradiction LINE CORE               the line refuted last, and the given lines to blame\n  open LAST                             nothing refuted; the number of the last line\n  refused NUMBER LAYER LINE FIELD DETAIL  and says why on standard error\n\nEnds with 0, or with 1 if the text is refused.";
 
 fn judge(rt: &HostRuntime, paths: &[String]) -> Result<(), Ended> {
     let path = paths.first().map_or("case.txt", |path| path.as_str());

@@ -11,7 +11,8 @@ use std::process::ExitCode;
 use std::{env, io};
 use text::cases::read_case;
 
-const HELP: &str = "runcheck [CASE [RUN]]\n\nJudges the case text CASE (case.txt) and, once it is accepted, the run text RUN (run.txt).\nA file that cannot be opened is read as a text without bytes.\n\nPrints one line, its fields parted by tabs:\n  kept LEAD-IN LOOP                     the run breaks no given clause at any moment\n  refused NUMBER LAYER LINE FIELD DETAIL  and says why on standard error\n\nEnds with 0 if the run is kept, and with 1 if it is refused.";
+const HELP: &str =
+    "runcheck [CASE [RUN]]\n\nJudges the case text CASE (case.txt) and, once it is accepted, the run text RUN (run.txt).\nA file that cannot be opened is read as a text without bytes.\n\nPrints one line, its fields parted by tabs:\n  kept LEAD-IN LOOP                     the run breaks no given clause at any moment\n  refused NUMBER LAYER LINE FIELD DETAIL  and says why on standard error\n\nEnds with 0 if the run is kept, and with 1 if it is refused.";
 
 fn judge(rt: &HostRuntime, paths: &[String]) -> Result<(), Ended> {
     let case_path = paths.first().map_or("case.txt", |path| path.as_str());
