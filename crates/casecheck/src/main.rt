@@ -2,14 +2,19 @@
 #![tactic(auto)]
 
 use lines::line::Line;
-use programs::endings::{Ended, conclude, exit_code};
+use programs::endings::{Ended, conclude};
+use programs::starts::start;
 use reports::files::read_text;
 use reports::report::Report;
 use std::process::ExitCode;
 use std::{env, io};
 use text::cases::read_case;
 
-fn judge(rt: &HostRuntime, path: &str) -> Result<(), Ended> {
+const HELP: &str =
+    "casecheck [CASE]\n\nJudges the case text CASE (case.txt).\nA file that cannot be opened is read as a text without bytes.\n\nPrints one line, its fields parted by tabs:\n  contradiction LINE CORE               the line refuted last, and the given lines to blame\n  open LAST                             nothing refuted; the number of the last line\n  refused NUMBER LAYER LINE FIELD DETAIL  and says why on standard error\n\nEnds with 0, or with 1 if the text is refused.";
+
+fn judge(rt: &HostRuntime, paths: &[String]) -> Result<(), Ended> {
+    let path = paths.first().map_or("case.txt", |path| path.as_str());
     let text = read_text(rt, path)?;
     let mut table = [Line::blank(); 1000];
     let mut row = [0u16; 200];
@@ -18,18 +23,6 @@ fn judge(rt: &HostRuntime, path: &str) -> Result<(), Ended> {
 }
 
 fn main(rt: HostRuntime) -> io::Result<ExitCode> {
-    let mut args = env::args(&rt)?;
-    let _ = args.next();
-    match args.next() {
-        None => exit_code(judge(&rt, "case.txt")),
-        Some(path) => {
-            if path.as_str() == "--help" {
-                println!(rt;
-                    "casecheck [CASE]\n\nJudges the case text CASE (case.txt).\nA file that cannot be opened is read as a text without bytes.\n\nPrints one line, its fields parted by tabs:\n  contradiction LINE CORE               the line refuted last, and the given lines to blame\n  open LAST                             nothing refuted; the number of the last line\n  refused NUMBER LAYER LINE FIELD DETAIL  and says why on standard error\n\nEnds with 0, or with 1 if the text is refused."
-                )?;
-                return Ok(ExitCode::SUCCESS);
-            }
-            exit_code(judge(&rt, path.as_str()))
-        }
-    }
+    let paths: Vec<String> = env::args(&rt)?.skip(1).collect(rt.alloc())?;
+    start(&rt, &paths, HELP, || judge(&rt, &paths))
 }

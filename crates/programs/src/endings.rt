@@ -3,8 +3,7 @@ ghost use Rattle.programs.specs.declared.endings.Ended.TheVariants.{Failed};
 ghost use Rattle.programs.specs.Endings.{Ends, ExitsWith};
 
 use clause::refusal::Fault;
-use reasons::sentences::sentence;
-use reports::printed::report_line;
+use reasons::sentences::Explained;
 use reports::report::Report;
 use std::io;
 use std::process::ExitCode;
@@ -24,26 +23,16 @@ impl From<io::Error> for Ended {
     }
 }
 
-// Prints the line of a report, and of a refusal one sentence on standard error.
-fn print_report(rt: &HostRuntime, report: Report) -> io::Result<()> {
-    let line = report_line(rt.alloc(), report)?;
-    println!(rt; "{line}")?;
-    if let Report::Refused(f) = report {
-        let why = sentence(rt.alloc(), f)?;
-        eprintln!(rt; "{why}")?;
-    }
-    Ok(())
-}
-
-// Prints a report, and fails where it is a refusal.
+// Prints the line of a report, and fails where it is a refusal, with one sentence on standard error.
 pub fn conclude(rt: &HostRuntime, report: Report) -> Result<(), Ended>
     ensures { Ends report.entry result }
 {
-    print_report(rt, report)?;
-    match report {
-        Report::Refused(f) => Err(Ended::Refused(f)),
-        _ => Ok(()),
-    }
+    println!(rt; "{report}")?;
+    let Report::Refused(fault) = report else {
+        return Ok(());
+    };
+    eprintln!(rt; "{}", Explained(fault))?;
+    Err(Ended::Refused(fault))
 }
 
 // The status that `main` ends with: 0, or 1 where the report was a refusal; an error of reading or printing stays one.

@@ -1,4 +1,5 @@
-// What the programs share: how they end.
+// What the programs share: how they start, and how they end.
 #![tactic(auto)]
 
 pub mod endings;
+pub mod starts;

@@ -1,8 +1,9 @@
-ghost use Rattle.std.specs.Prelude.{◌≡◌, IfOk, string_bytes};
+ghost use Rattle.std.specs.Prelude.{◌≡◌, IfOk, Some, string_bytes};
 ghost use Rattle.reasons.specs.Sentences.{place_of, reason_of, sentence_of};
 
 use clause::refusal::{Fault, Refusal};
 use std::alloc::{AllocError, Global};
+use std::fmt;
 
 // What a refusal says, in words.
 pub fn reason(refusal: Refusal) -> &'static str
@@ -36,23 +37,63 @@ pub fn reason(refusal: Refusal) -> &'static str
 }
 
 // Where a fault lies, as it stands before the reason.
-fn place(heap: Global, f: Fault) -> Result<String, AllocError>
-    ensures { IfOk result (λ s. string_bytes s ≡ place_of f) }
-{
-    match f.refusal {
-        Refusal::RunBreaks => format!(in heap; "line {}, moment {}: ", f.line, f.detail),
-        Refusal::CoverMisfit => format!(in heap; "line {}, guard {}: ", f.line, f.detail),
-        _ if f.line == 0 => Ok(String::new(heap)),
-        _ if f.field == 0 => format!(in heap; "line {}: ", f.line),
-        _ => format!(in heap; "line {}, field {}: ", f.line, f.field),
+#[derive(Clone, Copy)]
+struct Place(Fault);
+
+impl fmt::Display for Place {
+    ghost output = { λ p. Some (place_of p.0) };
+
+    fn fmt<W: fmt::Write>(&self, f: &mut fmt::Formatter<W>) -> fmt::Result {
+        let fault = self.0;
+        match fault.refusal {
+            Refusal::RunBreaks => write!(f, "line {}, moment {}: ", fault.line, fault.detail),
+            Refusal::CoverMisfit => write!(f, "line {}, guard {}: ", fault.line, fault.detail),
+            _ if fault.line == 0 => Ok(()),
+            _ if fault.field == 0 => write!(f, "line {}: ", fault.line),
+            _ => write!(f, "line {}, field {}: ", fault.line, fault.field),
+        }
     }
 }
 
 // One sentence about a fault.
+#[derive(Clone, Copy)]
+pub struct Explained(pub Fault);
+
+impl fmt::Display for Explained {
+    ghost output = { λ e. Some (sentence_of e.0) };
+
+    fn fmt<W: fmt::Write>(&self, f: &mut fmt::Formatter<W>) -> fmt::Result {
+        let place = Place(self.0);
+        let why = reason(self.0.refusal);
+        write!(f, "{place}{why}")
+    }
+}
+
+// One sentence about a fault, as a text.
 pub fn sentence(heap: Global, f: Fault) -> Result<String, AllocError>
     ensures { IfOk result (λ s. string_bytes s ≡ sentence_of f) }
 {
-    let place = place(heap, f)?;
-    let why = reason(f.refusal);
-    format!(in heap; "{place}{why}")
+    Explained(f).to_string(heap)
+}
+
+#[cfg(test)]
+mod tests {
+    use super::*;
+    use std::test::Fail;
+
+    #[test]
+    fn a_broken_line_is_told_with_its_moment(rt: HostRuntime) -> Result<(), Fail> {
+        let fault = Fault {
+            refusal: Refusal::RunBreaks,
+            line: 2,
+            field: 0,
+            detail: 10,
+        };
+        let why = sentence(rt.alloc(), fault)?;
+        assert_eq!(rt;
+            why.as_str(),
+            "line 2, moment 10: the run breaks a given line"
+        );
+        Ok(())
+    }
 }

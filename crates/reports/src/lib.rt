@@ -4,5 +4,4 @@
 pub mod answers;
 pub mod files;
 pub mod printed;
-pub mod printing;
 pub mod report;

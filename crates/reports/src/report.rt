@@ -7,6 +7,6 @@ pub enum Report<'a> {
     // the verdict of a case text, and the row that has the core of a contradiction
     Case(Verdict, &'a [u16]),
     // the lead-in and the loop of a run that is kept
-    Kept(u16, u16),
+    Kept { lead_in: u16, turn: u16 },
     Refused(Fault),
 }
