@@ -1,6 +1,7 @@
 -- From what the worlds tell of a clause to where the run first breaks it.
-use Rattle.std.proofs.Common.{◌≡◌, ℕ, ◌+◌, ◌-◌, ◌<◌, ◌≤◌, true, ◌↔◌, List, length, get_or, Some, None, Option, sym, refl, ◌∙◌, subst, inl, inr, ⊎_elim, arith}
-use Rattle.std.proofs.lemmas.Bool.{cases_eq, cases_lt, eq-eqb, ne_eqb, both_ways}
+use Rattle.std.proofs.Common.{◌≡◌, ℕ, ◌+◌, ◌-◌, ◌<◌, ◌≤◌, true, false, ltb, MatchOption, ◌↔◌, List, length, get_or, Some, None, Option, sym, refl, ◌∙◌, subst, inl, inr, ⊎_elim, arith}
+use Rattle.std.specs.Bool.{then_some}
+use Rattle.std.proofs.lemmas.Bool.{cases_eq, cases_lt, eq-eqb, ne_eqb, le-ltb, lt-ltb, both_ways}
 use Rattle.clause.specs.declared.syntax.Literal.{Literal}
 use Rattle.clause.specs.declared.syntax.LitSet.{LitSet}
 use Rattle.clause.specs.declared.syntax.Clause.{Clause}
@@ -16,9 +17,19 @@ use Rattle.runs.specs.Moments.{World, letters, asks, true_in, LastTrue, BreaksAt
 use Rattle.runs.proofs.Seeing.{true_from, true_to, untrue_to}
 use Rattle.runs.proofs.Turns.{like, again, turned, Follows, true_moves, untrue_moves, broken_moves, Late}
 
--- what holds from a on and below i, and at i, holds below i + 1
-pub from_more : (P : ℕ → Type 0) (a i : ℕ) → ((j : ℕ) → a ≤ j → j < i → P j) → P i → (j : ℕ) → a ≤ j → j < i + 1 → P j
-from_more P a i f p j h l = ⊎_elim (λ e. subst P (sym e) p) (λ e. f j h (omega arith)) (cases_eq j i)
+-- what a search over the moments finds
+pub first_found : (P : ℕ → Type 0) (a e : ℕ) (o : Option ℕ)
+    → MatchOption o ((i : ℕ) → a ≤ i → i < e → ¬ P i) (λ i. (a ≤ i) × (i < e) × P i × ((j : ℕ) → a ≤ j → j < i → ¬ P j)) → FirstIn P a e o
+first_found P a e None f = f
+first_found P a e (Some i) f = f
+
+-- the last place where the literal is true
+pub last_true : (ws : List ℕ) (lead : ℕ) (l : Literal) (i : ℕ) → i < length ws → true_in (get_or ws i 0) l ≡ true
+    → ((j : ℕ) → i < j → j < length ws → true_in (get_or ws j 0) l ≡ false) → LastTrue ws lead l (then_some (ltb i lead) (i + 1))
+last_true ws lead l i h t f = ⊎_elim
+    (λ b. rw (lt-ltb i lead b) (inr (omega arith, omega arith, omega arith, let e : i ≡ i + 1 - 1 = omega arith in subst (λ n. true_in (get_or ws n 0) l ≡ true) e t), λ j a q. f j (omega arith) q))
+    (λ b. rw (le-ltb i lead b) (i, b, h, t))
+    (cases_lt i lead)
 
 -- the last true place and the literal of an eventuality or a never clause
 module _ (ws : List ℕ) (lead : ℕ) (l : Literal) (P : ℕ → Type 0) where
