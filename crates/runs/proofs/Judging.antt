@@ -8,12 +8,12 @@ use Rattle.clause.specs.declared.syntax.Clause.{Clause}
 use Rattle.clause.specs.declared.syntax.Clause.TheVariants.{Initial, Global, Eventuality, Assumption, Never}
 use Rattle.clause.specs.Bit.{bit, In}
 use Rattle.clause.specs.Meaning.{Run, PlainTrue, Untrue, Broken}
-use Rattle.clause.specs.Sets.{Over, Narrow, UntrueIn}
+use Rattle.clause.specs.Sets.{Over, Narrow, UntrueIn, letters_of}
 use Rattle.clause.proofs.Masks.{in_left, in_right, in_pow, not_in_zero}
 use Rattle.clause.proofs.Truths.{plain_letter}
 use Rattle.runs.specs.Source.{Source, end_of}
 use Rattle.runs.specs.Breaks.{FirstBreak, FirstIn, successor}
-use Rattle.runs.specs.Moments.{World, letters, asks, true_in, LastTrue, BreaksAt, Comes, Gone, Judged}
+use Rattle.runs.specs.Moments.{World, asks, true_in, LastTrue, BreaksAt, Comes, Gone, Judged}
 use Rattle.runs.proofs.Seeing.{true_from, true_to, untrue_to}
 use Rattle.runs.proofs.Turns.{like, again, turned, Follows, true_moves, untrue_moves, broken_moves, Late}
 
@@ -83,7 +83,7 @@ first_of x c (Some i) late f = (f.2, λ j b. f.3 j (omega arith) b)
 abbrev pub Asked : ℕ → LitSet → Type 0
 Asked asked s = (k : ℕ) → (In k s.plus → In k asked × (k < 60)) × (In k s.minus → In k asked × (k < 60))
 
-pub asked_from : (asked : ℕ) (s : LitSet) → ¬ Over 59 s → ((k : ℕ) → In k (letters s) → In k asked) → Asked asked s
+pub asked_from : (asked : ℕ) (s : LitSet) → ¬ Over 59 s → ((k : ℕ) → In k (letters_of s) → In k asked) → Asked asked s
 asked_from asked s o p k = (
   (λ h. (p k (in_left s.plus s.minus k h), ⊎_elim (λ z. z) (λ z. absurd (o (k, omega arith, inl h))) (cases_lt k 60))),
   λ h. (p k (in_right s.plus s.minus k h), ⊎_elim (λ z. z) (λ z. absurd (o (k, omega arith, inr h))) (cases_lt k 60)),

@@ -7,21 +7,18 @@ use Rattle.clause.specs.declared.syntax.Clause.{Clause}
 use Rattle.clause.specs.declared.syntax.Clause.TheVariants.{Initial, Global, Eventuality, Assumption, Never}
 use Rattle.clause.specs.Bit.{In, bit}
 use Rattle.clause.specs.Meaning.{Run, LetterTrue, Waits, waited, none}
-use Rattle.clause.specs.Sets.{UntrueIn}
+use Rattle.clause.specs.Sets.{UntrueIn, letters_of}
 use Rattle.runs.specs.Source.{Source, end_of}
 use Rattle.runs.specs.Breaks.{successor, FirstIn}
 use Rattle.runs.specs.declared.moments.Moments.{Moments}
 
--- the letters that a set or a clause asks for, as a mask
-abbrev pub letters : LitSet → ℕ
-letters s = bit_or s.plus s.minus
-
+-- the letters that a clause asks for, as a mask
 abbrev pub asks : Clause → ℕ
-asks (Initial n) = letters n
-asks (Global n x) = bit_or (letters n) (letters x)
-asks (Eventuality n l) = bit_or (letters n) (2 ^ l.letter)
-asks (Assumption x) = letters x
-asks (Never n l) = bit_or (letters n) (2 ^ l.letter)
+asks (Initial n) = letters_of n
+asks (Global n x) = bit_or (letters_of n) (letters_of x)
+asks (Eventuality n l) = bit_or (letters_of n) (2 ^ l.letter)
+asks (Assumption x) = letters_of x
+asks (Never n l) = bit_or (letters_of n) (2 ^ l.letter)
 
 -- w has each letter asked for, of the 60 that a line can hold, exactly where it is true at moment i
 abbrev pub World : Run → ℕ → ℕ → ℕ → Type 0

@@ -3,30 +3,24 @@ ghost use Rattle.clause.specs.Bit.{In};
 ghost use Rattle.clause.specs.Meaning.{waited as waited_for};
 ghost use Rattle.clause.specs.Sets.{literal_of};
 ghost use Rattle.runs.specs.Source.{Source, end_of};
-ghost use Rattle.runs.specs.Moments.{Read, asks, letters, noted, seen, comes_after as the_comes_after, Spans, Noted, NotedBelow};
+ghost use Rattle.runs.specs.Moments.{Read, asks, noted, seen, comes_after as the_comes_after, Spans, Noted, NotedBelow};
 
 use crate::horizon::true_in;
 use crate::moments::{Masks, Moments};
 use crate::source::RunSource;
 use clause::sets::{bit_at, mask};
-use clause::syntax::{Clause, LitSet, Literal};
-
-fn letters(s: LitSet) -> u64
-    ensures { result ≡ letters s }
-{
-    s.plus | s.minus
-}
+use clause::syntax::{Clause, Literal};
 
 // The letters that a clause asks for.
 pub fn asks(clause: Clause) -> u64
     ensures { (literal_of clause).letter < 64 → result ≡ asks clause }
 {
     match clause {
-        Clause::Initial(n) => letters(n),
-        Clause::Global(n, x) => letters(n) | letters(x),
-        Clause::Eventuality(n, l) => letters(n) | mask(l.letter),
-        Clause::Assumption(x) => letters(x),
-        Clause::Never(n, l) => letters(n) | mask(l.letter),
+        Clause::Initial(n) => n.letters(),
+        Clause::Global(n, x) => n.letters() | x.letters(),
+        Clause::Eventuality(n, l) => n.letters() | mask(l.letter),
+        Clause::Assumption(x) => x.letters(),
+        Clause::Never(n, l) => n.letters() | mask(l.letter),
     }
 }
 
