@@ -31,44 +31,6 @@ last_true ws lead l i h t f = ⊎_elim
     (λ b. rw (le-ltb i lead b) (i, b, h, t))
     (cases_lt i lead)
 
--- the last true place and the literal of an eventuality or a never clause
-module _ (ws : List ℕ) (lead : ℕ) (l : Literal) (P : ℕ → Type 0) where
-  pub eventual_none : LastTrue ws lead l None → FirstIn (λ i. P i × Gone ws lead l i) 0 (length ws) None
-  eventual_none (j, h, b, t) i _ _ p = both_ways (true_in (get_or ws j 0) l) (p.1 j b (inr h)) t
-
-  before_last : (h i : ℕ) → LastTrue ws lead l (Some h) → i < h → ¬ Gone ws lead l i
-  before_last h i t b g = ⊎_elim (λ e. omega arith) (λ e. both_ways (true_in (get_or ws (h - 1) 0) l) (g (h - 1) (omega (arith, e.1, e.2)) (inl (omega arith))) e.3) t.0
-
-  low_last : (h : ℕ) → LastTrue ws lead l (Some h) → h ≤ lead
-  low_last h t = ⊎_elim (λ e. omega arith) (λ e. e.0) t.0
-
-  pub eventual_some : (h : ℕ) (o : Option ℕ) → LastTrue ws lead l (Some h) → FirstIn P h (length ws) o → FirstIn (λ i. P i × Gone ws lead l i) 0 (length ws) o
-  eventual_some h None t f = λ i _ b p. ⊎_elim (λ z. before_last h i t z p.1) (λ z. f i z b p.0) (cases_lt i h)
-  eventual_some h (Some i) t f = (
-    omega arith,
-    f.1,
-    (f.2, λ j b. ⊎_elim (λ z. t.1 j (omega (arith, f.0)) b) (λ z. t.1 j (omega (arith, low_last h t)) b)),
-    λ j _ b p. ⊎_elim (λ z. before_last h j t z p.1) (λ z. f.3 j z b p.0) (cases_lt j h),
-  )
-
-  pub never_none : (o : Option ℕ) → LastTrue ws lead l None → FirstIn P 0 (length ws) o → FirstIn (λ i. P i × Comes ws lead l i) 0 (length ws) o
-  never_none None t f = λ i a b p. f i a b p.0
-  never_none (Some i) (j, h, b, t) f = (f.0, f.1, (f.2, (j, b, inr h, t)), λ m a q p. f.3 m a q p.0)
-
-  not_comes : (h i : ℕ) → LastTrue ws lead l (Some h) → h - 1 ≤ i → ¬ Comes ws lead l i
-  not_comes h i t b (j, q, c, e) =
-      let up : h ≤ j = ⊎_elim (λ z. omega arith) (λ z. omega (arith, low_last h t)) c in
-      both_ways (true_in (get_or ws j 0) l) (t.1 j up q) e
-
-  pub never_some : (h : ℕ) (o : Option ℕ) → LastTrue ws lead l (Some h) → FirstIn P 0 (h - 1) o → FirstIn (λ i. P i × Comes ws lead l i) 0 (length ws) o
-  never_some h None t f = λ i a b p. ⊎_elim (λ z. f i a z p.0) (λ z. not_comes h i t z p.1) (cases_lt i (h - 1))
-  never_some h (Some i) t f = ⊎_elim (λ e. absurd (omega (arith, f.1)))
-      (λ e. (f.0, omega (arith, f.1, e.2), (f.2, (h - 1, omega (arith, e.1, e.2), inl f.1, e.3)), λ m a q p. f.3 m a q p.0))
-      t.0
-
-  pub short_last : (h : ℕ) → LastTrue ws lead l (Some h) → h - 1 ≤ length ws
-  short_last h t = ⊎_elim (λ e. omega arith) (λ e. omega (arith, e.2)) t.0
-
 -- the same moments by another word for what is sought
 pub first_map : (P Q : ℕ → Type 0) (e : ℕ) (o : Option ℕ) → ((i : ℕ) → i < e → P i ↔ Q i) → FirstIn P 0 e o → FirstIn Q 0 e o
 first_map P Q e None f p = λ i a b q. p i a b ((f i b).1 q)
