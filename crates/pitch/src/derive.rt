@@ -1,33 +1,22 @@
 ghost use Rattle.std.specs.Prelude.{◌≡◌, length};
 
-use case::stage::{Intake, OpenLoop, Sealed};
+use crate::frame::give;
+use crate::task::{no, yes};
+use case::stage::{OpenLoop, Sealed};
 use clause::refusal::Fault;
-use clause::syntax::{Clause, LitSet, Literal};
+use clause::syntax::{Clause, LitSet};
 use lines::line::Line;
 use rules::resolution::Resolution;
 
-fn literal(letter: u8, positive: bool) -> Literal {
-    Literal { letter, positive }
-}
-
-fn one(letter: u8, positive: bool) -> LitSet {
-    LitSet::of(literal(letter, positive))
-}
-
 fn give_figures(table: &mut [Line]) -> Result<Sealed, Fault> {
-    let mut intake = Intake::new(table)?;
     let clauses = [
-        Clause::Initial(one(1, true)),
-        Clause::Global(one(1, false), one(1, true)),
-        Clause::Global(one(1, false), one(0, false)),
-        Clause::Eventuality(LitSet::NONE, literal(0, true)),
-        Clause::Global(one(2, false), LitSet::NONE),
+        Clause::Initial(LitSet::of(yes(1))),
+        Clause::Global(LitSet::of(no(1)), LitSet::of(yes(1))),
+        Clause::Global(LitSet::of(no(1)), LitSet::of(no(0))),
+        Clause::Eventuality(LitSet::NONE, yes(0)),
+        Clause::Global(LitSet::of(no(2)), LitSet::NONE),
     ];
-    for clause in clauses {
-        intake.give(table, clause)?;
-    }
-    let (sealed, _) = intake.seal();
-    Ok(sealed)
+    give(table, &clauses)
 }
 
 // Ends a loop without a result, and says why.
@@ -40,25 +29,23 @@ fn give_up(open: OpenLoop, table: &mut [Line], why: Fault) -> Fault
     }
 }
 
+// The lines derived within the loop.
+fn loop_lines(open: &mut OpenLoop, table: &mut [Line]) -> Result<(), Fault> {
+    open.infer(table, &Resolution, &[2, 6], 1)?;
+    open.infer(table, &Resolution, &[7, 3], 0)?;
+    Ok(())
+}
+
 // The steps within the loop, and its end.
 fn loop_steps(mut open: OpenLoop, table: &mut [Line]) -> Result<Sealed, Fault>
     requires { length table.old ≡ 1000 }
 {
-    if let Err(f) = open.infer(table, &Resolution, &[2, 6], 1) {
-        return Err(give_up(open, table, f));
-    }
-    if let Err(f) = open.infer(table, &Resolution, &[7, 3], 0) {
+    if let Err(f) = loop_lines(&mut open, table) {
         return Err(give_up(open, table, f));
     }
     match open.close(table, &[8]) {
-        Ok(closed) => {
-            let (sealed, _) = closed;
-            Ok(sealed)
-        }
-        Err(back) => {
-            let (open, f) = back;
-            Err(give_up(open, table, f))
-        }
+        Ok((sealed, _)) => Ok(sealed),
+        Err((open, f)) => Err(give_up(open, table, f)),
     }
 }
 
@@ -66,23 +53,24 @@ fn loop_steps(mut open: OpenLoop, table: &mut [Line]) -> Result<Sealed, Fault>
 fn never_again(sealed: Sealed, table: &mut [Line]) -> Result<Sealed, Fault>
     requires { length table.old ≡ 1000 }
 {
-    match sealed.open(table, literal(0, true), &[one(1, false)]) {
-        Ok(opened) => {
-            let (open, _) = opened;
-            loop_steps(open, table)
-        }
-        Err(back) => {
-            let (_, f) = back;
-            Err(f)
-        }
+    match sealed.open(table, yes(0), &[LitSet::of(no(1))]) {
+        Ok((open, _)) => loop_steps(open, table),
+        Err((_, f)) => Err(f),
     }
 }
 
-// Derives the empty initial line, refutes it, and answers its number and the count of its core.
+// A line without a literal, and how many given lines its core has.
+#[derive(Clone, Copy)]
+pub(crate) struct Contradiction {
+    pub(crate) line: u16,
+    pub(crate) count: u16,
+}
+
+// Derives the empty initial line, refutes it, and writes its core into the row.
 pub(crate) fn contradict(
     table: &mut [Line; 1000],
     row: &mut [u16; 200],
-) -> Result<(u16, u16), Fault> {
+) -> Result<Contradiction, Fault> {
     let sealed = give_figures(table)?;
     let mut sealed = never_again(sealed, table)?;
     sealed.draw(table, 9, 4)?;
@@ -90,5 +78,5 @@ pub(crate) fn contradict(
     sealed.infer(table, &Resolution, &[2, 11], 1)?;
     let line = sealed.infer(table, &Resolution, &[1, 12], 1)?;
     let count = sealed.refute(table, line, row)?;
-    Ok((line, count))
+    Ok(Contradiction { line, count })
 }

@@ -1,62 +1,35 @@
 -- From what the worlds tell of a clause to where the run first breaks it.
-use Rattle.std.proofs.Common.{◌≡◌, ℕ, ◌+◌, ◌-◌, ◌<◌, ◌≤◌, true, ◌↔◌, List, length, get_or, Some, None, Option, sym, refl, ◌∙◌, subst, inl, inr, ⊎_elim, arith}
-use Rattle.std.proofs.lemmas.Bool.{cases_eq, cases_lt, eq-eqb, ne_eqb, both_ways}
+use Rattle.std.proofs.Common.{◌≡◌, ℕ, ◌+◌, ◌-◌, ◌<◌, ◌≤◌, true, false, ltb, MatchOption, ◌↔◌, List, length, get_or, Some, None, Option, sym, refl, ◌∙◌, subst, inl, inr, ⊎_elim, arith}
+use Rattle.std.specs.Bool.{then_some}
+use Rattle.std.proofs.lemmas.Bool.{cases_eq, cases_lt, eq-eqb, ne_eqb, le-ltb, lt-ltb, both_ways}
 use Rattle.clause.specs.declared.syntax.Literal.{Literal}
 use Rattle.clause.specs.declared.syntax.LitSet.{LitSet}
 use Rattle.clause.specs.declared.syntax.Clause.{Clause}
 use Rattle.clause.specs.declared.syntax.Clause.TheVariants.{Initial, Global, Eventuality, Assumption, Never}
 use Rattle.clause.specs.Bit.{bit, In}
 use Rattle.clause.specs.Meaning.{Run, PlainTrue, Untrue, Broken}
-use Rattle.clause.specs.Sets.{Over, Narrow, UntrueIn}
+use Rattle.clause.specs.Sets.{Over, Narrow, UntrueIn, letters_of}
 use Rattle.clause.proofs.Masks.{in_left, in_right, in_pow, not_in_zero}
 use Rattle.clause.proofs.Truths.{plain_letter}
 use Rattle.runs.specs.Source.{Source, end_of}
 use Rattle.runs.specs.Breaks.{FirstBreak, FirstIn, successor}
-use Rattle.runs.specs.Moments.{World, letters, asks, true_in, LastTrue, BreaksAt, Comes, Gone, Judged}
+use Rattle.runs.specs.Moments.{World, asks, true_in, LastTrue, BreaksAt, Comes, Gone, Judged}
 use Rattle.runs.proofs.Seeing.{true_from, true_to, untrue_to}
 use Rattle.runs.proofs.Turns.{like, again, turned, Follows, true_moves, untrue_moves, broken_moves, Late}
 
--- what holds from a on and below i, and at i, holds below i + 1
-pub from_more : (P : ℕ → Type 0) (a i : ℕ) → ((j : ℕ) → a ≤ j → j < i → P j) → P i → (j : ℕ) → a ≤ j → j < i + 1 → P j
-from_more P a i f p j h l = ⊎_elim (λ e. subst P (sym e) p) (λ e. f j h (omega arith)) (cases_eq j i)
+-- what a search over the moments finds
+pub first_found : (P : ℕ → Type 0) (a e : ℕ) (o : Option ℕ)
+    → MatchOption o ((i : ℕ) → a ≤ i → i < e → ¬ P i) (λ i. (a ≤ i) × (i < e) × P i × ((j : ℕ) → a ≤ j → j < i → ¬ P j)) → FirstIn P a e o
+first_found P a e None f = f
+first_found P a e (Some i) f = f
 
--- the last true place and the literal of an eventuality or a never clause
-module _ (ws : List ℕ) (lead : ℕ) (l : Literal) (P : ℕ → Type 0) where
-  pub eventual_none : LastTrue ws lead l None → FirstIn (λ i. P i × Gone ws lead l i) 0 (length ws) None
-  eventual_none (j, h, b, t) i _ _ p = both_ways (true_in (get_or ws j 0) l) (p.1 j b (inr h)) t
-
-  before_last : (h i : ℕ) → LastTrue ws lead l (Some h) → i < h → ¬ Gone ws lead l i
-  before_last h i t b g = ⊎_elim (λ e. omega arith) (λ e. both_ways (true_in (get_or ws (h - 1) 0) l) (g (h - 1) (omega (arith, e.1, e.2)) (inl (omega arith))) e.3) t.0
-
-  low_last : (h : ℕ) → LastTrue ws lead l (Some h) → h ≤ lead
-  low_last h t = ⊎_elim (λ e. omega arith) (λ e. e.0) t.0
-
-  pub eventual_some : (h : ℕ) (o : Option ℕ) → LastTrue ws lead l (Some h) → FirstIn P h (length ws) o → FirstIn (λ i. P i × Gone ws lead l i) 0 (length ws) o
-  eventual_some h None t f = λ i _ b p. ⊎_elim (λ z. before_last h i t z p.1) (λ z. f i z b p.0) (cases_lt i h)
-  eventual_some h (Some i) t f = (
-    omega arith,
-    f.1,
-    (f.2, λ j b. ⊎_elim (λ z. t.1 j (omega (arith, f.0)) b) (λ z. t.1 j (omega (arith, low_last h t)) b)),
-    λ j _ b p. ⊎_elim (λ z. before_last h j t z p.1) (λ z. f.3 j z b p.0) (cases_lt j h),
-  )
-
-  pub never_none : (o : Option ℕ) → LastTrue ws lead l None → FirstIn P 0 (length ws) o → FirstIn (λ i. P i × Comes ws lead l i) 0 (length ws) o
-  never_none None t f = λ i a b p. f i a b p.0
-  never_none (Some i) (j, h, b, t) f = (f.0, f.1, (f.2, (j, b, inr h, t)), λ m a q p. f.3 m a q p.0)
-
-  not_comes : (h i : ℕ) → LastTrue ws lead l (Some h) → h - 1 ≤ i → ¬ Comes ws lead l i
-  not_comes h i t b (j, q, c, e) =
-      let up : h ≤ j = ⊎_elim (λ z. omega arith) (λ z. omega (arith, low_last h t)) c in
-      both_ways (true_in (get_or ws j 0) l) (t.1 j up q) e
-
-  pub never_some : (h : ℕ) (o : Option ℕ) → LastTrue ws lead l (Some h) → FirstIn P 0 (h - 1) o → FirstIn (λ i. P i × Comes ws lead l i) 0 (length ws) o
-  never_some h None t f = λ i a b p. ⊎_elim (λ z. f i a z p.0) (λ z. not_comes h i t z p.1) (cases_lt i (h - 1))
-  never_some h (Some i) t f = ⊎_elim (λ e. absurd (omega (arith, f.1)))
-      (λ e. (f.0, omega (arith, f.1, e.2), (f.2, (h - 1, omega (arith, e.1, e.2), inl f.1, e.3)), λ m a q p. f.3 m a q p.0))
-      t.0
-
-  pub short_last : (h : ℕ) → LastTrue ws lead l (Some h) → h - 1 ≤ length ws
-  short_last h t = ⊎_elim (λ e. omega arith) (λ e. omega (arith, e.2)) t.0
+-- the last place where the literal is true
+pub last_true : (ws : List ℕ) (lead : ℕ) (l : Literal) (i : ℕ) → i < length ws → true_in (get_or ws i 0) l ≡ true
+    → ((j : ℕ) → i < j → j < length ws → true_in (get_or ws j 0) l ≡ false) → LastTrue ws lead l (then_some (ltb i lead) (i + 1))
+last_true ws lead l i h t f = ⊎_elim
+    (λ b. rw (lt-ltb i lead b) (inr (omega arith, omega arith, omega arith, let e : i ≡ i + 1 - 1 = omega arith in subst (λ n. true_in (get_or ws n 0) l ≡ true) e t), λ j a q. f j (omega arith) q))
+    (λ b. rw (le-ltb i lead b) (i, b, h, t))
+    (cases_lt i lead)
 
 -- the same moments by another word for what is sought
 pub first_map : (P Q : ℕ → Type 0) (e : ℕ) (o : Option ℕ) → ((i : ℕ) → i < e → P i ↔ Q i) → FirstIn P 0 e o → FirstIn Q 0 e o
@@ -72,7 +45,7 @@ first_of x c (Some i) late f = (f.2, λ j b. f.3 j (omega arith) b)
 abbrev pub Asked : ℕ → LitSet → Type 0
 Asked asked s = (k : ℕ) → (In k s.plus → In k asked × (k < 60)) × (In k s.minus → In k asked × (k < 60))
 
-pub asked_from : (asked : ℕ) (s : LitSet) → ¬ Over 59 s → ((k : ℕ) → In k (letters s) → In k asked) → Asked asked s
+pub asked_from : (asked : ℕ) (s : LitSet) → ¬ Over 59 s → ((k : ℕ) → In k (letters_of s) → In k asked) → Asked asked s
 asked_from asked s o p k = (
   (λ h. (p k (in_left s.plus s.minus k h), ⊎_elim (λ z. z) (λ z. absurd (o (k, omega arith, inl h))) (cases_lt k 60))),
   λ h. (p k (in_right s.plus s.minus k h), ⊎_elim (λ z. z) (λ z. absurd (o (k, omega arith, inr h))) (cases_lt k 60)),

@@ -1,5 +1,5 @@
 -- The plain letters of a world, and then its waiting letters.
-use Rattle.std.proofs.Common.{◌≡◌, ℕ, zero, suc, ◌+◌, ◌-◌, ◌/◌, ◌^◌, ◌<◌, ◌≤◌, Bool, true, false, not, ◌&&◌, eqb, ◌↔◌, List, get_or, Some, None, Option, sym, refl, ap, ◌∙◌, subst, ⊎_elim, add-one, arith}
+use Rattle.std.proofs.Common.{◌≡◌, ℕ, zero, suc, ◌+◌, ◌-◌, ◌/◌, ◌^◌, ◌<◌, ◌≤◌, Bool, true, false, not, ◌&&◌, eqb, ◌↔◌, get_or, Some, None, Option, sym, refl, ap, ◌∙◌, subst, ⊎_elim, add-one, arith}
 use Rattle.std.proofs.lemmas.Bool.{cases_eq, cases_lt, cases_Bool, eq-eqb, ne_eqb, eqb-true, false≢true, lt-ltb, ltb-true, and_parts, and_from, not-true, not_from_false, le-ltb, both_ways}
 use Rattle.clause.specs.declared.syntax.Literal.{Literal}
 use Rattle.clause.specs.Bit.{bit, In}
@@ -9,7 +9,8 @@ use Rattle.clause.proofs.Telling.{beq_true, beq_same, same_tests}
 use Rattle.clause.proofs.Truths.{plain_letter, high_letter}
 use Rattle.runs.specs.Source.{Source, end_of}
 use Rattle.runs.specs.Breaks.{Horizon}
-use Rattle.runs.specs.Moments.{World, noted, seen, wanted, waits_in, comes_after, true_in, NotedBelow}
+use Rattle.runs.specs.Moments.{World, noted, seen, wanted, waits_in, comes_after, true_in, Spans, NotedBelow}
+use Rattle.runs.specs.declared.moments.Moments.{Moments}
 
 module _ (r : Run) (asked i k w w' : ℕ) (q : w ≡ seen r asked i k) where
   pub seen_hit : bit asked k ≡ 1 → w' ≡ noted (r i k) k w → w' ≡ seen r asked i (k + 1)
@@ -53,8 +54,9 @@ seen_is r asked i (suc k) j h a = ⊎_elim
     (cases_eq j k)
 
 -- the worlds with the plain letters wanted
-pub below_plain : (x : Source) (asked : ℕ) (ws : List ℕ) → ((i : ℕ) → i < end_of x → get_or ws i 0 ≡ seen x.run (wanted asked) i 20) → NotedBelow x asked 20 ws
-below_plain x asked ws q = record {
+pub below_plain : (x : Source) (asked : ℕ) (m : Moments) → Spans x m → ((i : ℕ) → i < end_of x → get_or m.worlds.at i 0 ≡ seen x.run (wanted asked) i 20) → NotedBelow x asked 20 m
+below_plain x asked m s q = record {
+  spans = s;
   noted_at = λ i h j. (
     (λ l a. subst (λ n. In j n ↔ (x.run i j ≡ true)) (sym (q i h)) (seen_is x.run (wanted asked) i 20 j l a)),
     (λ l l'. absurd (omega arith)),
@@ -112,20 +114,21 @@ want_waited asked k h a = ⊎_elim
     high l = rw (le-ltb k 40 l, waited) refl
 
 -- one waiting letter more
-module _ (x : Source) (asked k : ℕ) (ws : List ℕ) (h : 20 ≤ k) (q : NotedBelow x asked k ws) where
-  pub below_hit : (ws' : List ℕ) (o : Option ℕ) (l : Literal) → l ≡ waited k → l.letter < 20 → In k asked → Horizon x.run l o
-      → ((i : ℕ) → i < end_of x → get_or ws' i 0 ≡ noted (waits_in o l i (get_or ws i 0)) k (get_or ws i 0)) → NotedBelow x asked (k + 1) ws'
-  below_hit ws' o l is low a hz e = record {
+module _ (x : Source) (asked k : ℕ) (m : Moments) (h : 20 ≤ k) (q : NotedBelow x asked k m) where
+  pub below_hit : (m' : Moments) (o : Option ℕ) (l : Literal) → l ≡ waited k → l.letter < 20 → In k asked → Horizon x.run l o → Spans x m'
+      → ((i : ℕ) → i < end_of x → get_or m'.worlds.at i 0 ≡ noted (waits_in o l i (get_or m.worlds.at i 0)) k (get_or m.worlds.at i 0)) → NotedBelow x asked (k + 1) m'
+  below_hit m' o l is low a hz s e = record {
+    spans = s;
     noted_at = λ i b j.
-        let w = get_or ws i 0 in
+        let w = get_or m.worlds.at i 0 in
         let t = waits_in o l i w in
-        let to : (m : ℕ) (P : Type 0) → In m (noted t k w) ↔ P → In m (get_or ws' i 0) ↔ P = λ m P f. subst (λ n. In m n ↔ P) (sym (e i b)) f in
+        let to : (z : ℕ) (P : Type 0) → In z (noted t k w) ↔ P → In z (get_or m'.worlds.at i 0) ↔ P = λ z P f. subst (λ n. In z n ↔ P) (sym (e i b)) f in
         let pl : In l.letter w ↔ (x.run i l.letter ≡ true) = (q.noted_at i b l.letter).0 low (subst (λ (z : Literal). In z.letter (wanted asked)) (sym is) (want_waited asked k h a)) in
         let here = waits_is x.run i w l o pl hz in
         let same = in_noted_same t k w ((q.noted_at i b k).2 (omega arith) h) in (
           (λ z v. let n : ¬ (j ≡ k) = λ y. omega arith in let f = in_noted_other t k j w n in let f' = (q.noted_at i b j).0 z v in to j _ ((λ y. f'.0 (f.0 y)), λ y. f.1 (f'.1 y))),
           (λ z z' v. ⊎_elim
-              (λ y. subst (λ m. In m (get_or ws' i 0) ↔ Waits x.run i (waited m)) (sym y)
+              (λ y. subst (λ n. In n (get_or m'.worlds.at i 0) ↔ Waits x.run i (waited n)) (sym y)
               (to k _ ((λ p. subst (Waits x.run i) is (here.0 (same.0 p))), λ p. same.1 (here.1 (subst (Waits x.run i) (sym is) p)))))
               (λ n. let f = in_noted_other t k j w n in let f' = (q.noted_at i b j).1 z (omega arith) v in to j _ ((λ y. f'.0 (f.0 y)), λ y. f.1 (f'.1 y)))
               (cases_eq j k)),
@@ -133,18 +136,19 @@ module _ (x : Source) (asked k : ℕ) (ws : List ℕ) (h : 20 ≤ k) (q : NotedB
         );
   }
 
-  pub below_miss : ¬ In k asked → NotedBelow x asked (k + 1) ws
+  pub below_miss : ¬ In k asked → NotedBelow x asked (k + 1) m
   below_miss a = record {
+    spans = q.spans;
     noted_at = λ i b j. (
       (q.noted_at i b j).0,
-      (λ z z' v. ⊎_elim (λ y. absurd (a (subst (λ m. In m asked) y v))) (λ n. (q.noted_at i b j).1 z (omega arith) v) (cases_eq j k)),
+      (λ z z' v. ⊎_elim (λ y. absurd (a (subst (λ n. In n asked) y v))) (λ n. (q.noted_at i b j).1 z (omega arith) v) (cases_eq j k)),
       λ z z' p. (q.noted_at i b j).2 (omega arith) z' p,
     );
   }
 
 -- all letters noted
-pub world_is : (x : Source) (asked : ℕ) (ws : List ℕ) → NotedBelow x asked 60 ws → (i : ℕ) → i < end_of x → World x.run asked i (get_or ws i 0)
-world_is x asked ws q i b k h a = ⊎_elim
-    (λ l. subst (λ (P : Type 0). In k (get_or ws i 0) ↔ P) (sym (plain_letter x.run i k (omega arith))) ((q.noted_at i b k).0 l (want_plain asked k a)))
-    (λ l. subst (λ (P : Type 0). In k (get_or ws i 0) ↔ P) (sym (high_letter x.run i k l)) ((q.noted_at i b k).1 l h a))
+pub world_is : (x : Source) (asked : ℕ) (m : Moments) → NotedBelow x asked 60 m → (i : ℕ) → i < end_of x → World x.run asked i (get_or m.worlds.at i 0)
+world_is x asked m q i b k h a = ⊎_elim
+    (λ l. subst (λ (P : Type 0). In k (get_or m.worlds.at i 0) ↔ P) (sym (plain_letter x.run i k (omega arith))) ((q.noted_at i b k).0 l (want_plain asked k a)))
+    (λ l. subst (λ (P : Type 0). In k (get_or m.worlds.at i 0) ↔ P) (sym (high_letter x.run i k l)) ((q.noted_at i b k).1 l h a))
     (cases_lt k 20)

@@ -11,7 +11,8 @@ use Rattle.clause.proofs.Truths.{plain_letter, high_letter}
 use Rattle.runs.specs.Source.{Source, end_of}
 use Rattle.clause.specs.Bit.{In}
 use Rattle.runs.specs.Breaks.{Horizon}
-use Rattle.runs.specs.Moments.{true_in, LastTrue, noted, waits_in, wanted, NotedBelow}
+use Rattle.runs.specs.Moments.{true_in, LastTrue, noted, waits_in, wanted, worlds_of, Spans, NotedBelow}
+use Rattle.runs.specs.declared.moments.Moments.{Moments}
 use Rattle.runs.proofs.Seeing.{true_from, true_to, below_hit, want_waited}
 
 -- from i on the run goes as it does from j on
@@ -126,10 +127,15 @@ horizon_is x l ws (Some h) n q t = (
 pub part_world : (ws : List ℕ) (e i : ℕ) → e ≤ length ws → i < e → get_or (take e ws) i 0 ≡ get_or ws i 0
 part_world ws e i h b = get_or-take e ws i 0 b
 
-pub one_more : (x : Source) (asked k : ℕ) (ws ws' : List ℕ) (o : Option ℕ) (l : Literal) → 20 ≤ k → l ≡ waited k → l.letter < 20 → In k asked
-    → end_of x ≤ length ws → LastTrue (take (end_of x) ws) x.lead l o
-    → ((i : ℕ) → i < end_of x → get_or ws' i 0 ≡ noted (waits_in o l i (get_or ws i 0)) k (get_or ws i 0)) → NotedBelow x asked k ws → NotedBelow x asked (k + 1) ws'
-one_more x asked k ws ws' o l h is low a n t e q = below_hit x asked k ws h q ws' o l is low a
-    (horizon_is x l (take (end_of x) ws) o (length-take-le (end_of x) ws n)
-    (λ i b. subst (λ w. In l.letter w ↔ (x.run i l.letter ≡ true)) (sym (part_world ws (end_of x) i n b))
-    ((q.noted_at i b l.letter).0 low (subst (λ (z : Literal). In z.letter (wanted asked)) (sym is) (want_waited asked k h a)))) t) e
+pub one_more : (x : Source) (asked k : ℕ) (m m' : Moments) (o : Option ℕ) (l : Literal) → 20 ≤ k → l ≡ waited k → l.letter < 20 → In k asked
+    → LastTrue (worlds_of m) m.lead l o → Spans x m'
+    → ((i : ℕ) → i < m.end → get_or m'.worlds.at i 0 ≡ noted (waits_in o l i (get_or m.worlds.at i 0)) k (get_or m.worlds.at i 0)) → NotedBelow x asked k m → NotedBelow x asked (k + 1) m'
+one_more x asked k m m' o l h is low a t s' e q =
+    let s = q.spans in
+    let n : end_of x ≤ length m.worlds.at = omega (arith, s.room, x.small) in
+    below_hit x asked k m h q m' o l is low a
+    (horizon_is x l (take (end_of x) m.worlds.at) o (length-take-le (end_of x) m.worlds.at n)
+    (λ i b. subst (λ w. In l.letter w ↔ (x.run i l.letter ≡ true)) (sym (part_world m.worlds.at (end_of x) i n b))
+    ((q.noted_at i b l.letter).0 low (subst (λ (z : Literal). In z.letter (wanted asked)) (sym is) (want_waited asked k h a))))
+    (subst (λ d. LastTrue (take (end_of x) m.worlds.at) d l o) s.lead_is (subst (λ d. LastTrue (take d m.worlds.at) m.lead l o) s.end_is t)))
+    s' (λ i b. e i (omega (arith, s.end_is)))

@@ -7,35 +7,32 @@ use Rattle.clause.specs.declared.syntax.Clause.{Clause}
 use Rattle.clause.specs.declared.syntax.Clause.TheVariants.{Initial, Global, Eventuality, Assumption, Never}
 use Rattle.clause.specs.Bit.{In, bit}
 use Rattle.clause.specs.Meaning.{Run, LetterTrue, Waits, waited, none}
-use Rattle.clause.specs.Sets.{UntrueIn}
+use Rattle.clause.specs.Sets.{UntrueIn, letters_of}
 use Rattle.runs.specs.Source.{Source, end_of}
 use Rattle.runs.specs.Breaks.{successor, FirstIn}
 use Rattle.runs.specs.declared.moments.Moments.{Moments}
 
--- the letters that a set or a clause asks for, as a mask
-abbrev pub letters : LitSet → ℕ
-letters s = bit_or s.plus s.minus
-
+-- the letters that a clause asks for, as a mask
 abbrev pub asks : Clause → ℕ
-asks (Initial n) = letters n
-asks (Global n x) = bit_or (letters n) (letters x)
-asks (Eventuality n l) = bit_or (letters n) (2 ^ l.letter)
-asks (Assumption x) = letters x
-asks (Never n l) = bit_or (letters n) (2 ^ l.letter)
+asks (Initial n) = letters_of n
+asks (Global n x) = bit_or (letters_of n) (letters_of x)
+asks (Eventuality n l) = bit_or (letters_of n) (2 ^ l.letter)
+asks (Assumption x) = letters_of x
+asks (Never n l) = bit_or (letters_of n) (2 ^ l.letter)
 
 -- w has each letter asked for, of the 60 that a line can hold, exactly where it is true at moment i
 abbrev pub World : Run → ℕ → ℕ → ℕ → Type 0
 World r asked i w = (k : ℕ) → k < 60 → In k asked → In k w ↔ LetterTrue r i k
 
 abbrev pub worlds_of : Moments → List ℕ
-worlds_of m = take m.end m.worlds
+worlds_of m = take m.end m.worlds.at
 
 -- the moments of a source, read for the letters asked for
 pub record Read (x : Source) (asked : ℕ) (m : Moments) : Type 0 where
-  pub room : length m.worlds ≡ 4096
+  pub room : length m.worlds.at ≡ 4096
   pub lead_is : m.lead ≡ x.lead
   pub end_is : m.end ≡ end_of x
-  pub worlds_are : (i : ℕ) → i < end_of x → World x.run asked i (slice_index m.worlds i)
+  pub worlds_are : (i : ℕ) → i < end_of x → World x.run asked i (slice_index m.worlds.at i)
 
 -- the literal is true in the world w
 abbrev pub true_in : ℕ → Literal → Bool
@@ -73,12 +70,24 @@ BreaksAt ws lead n x i = UntrueIn (slice_index ws i) n × UntrueIn (slice_index 
 abbrev pub wanted : ℕ → ℕ
 wanted asked = bit_or asked (bit_or (asked / 2 ^ 20) (asked / 2 ^ 40))
 
+-- the moments are those of the source's lead-in and loop
+pub record Spans (x : Source) (m : Moments) : Type 0 where
+  pub room : length m.worlds.at ≡ 4096
+  pub lead_is : m.lead ≡ x.lead
+  pub end_is : m.end ≡ end_of x
+
+-- the letter k noted in each of the worlds before the end where the test gives true
+pub record Noted (Test : ℕ → ℕ → Bool → Type 0) (end k : ℕ) (ws ws' : List ℕ) : Type 0 where
+  pub room : length ws' ≡ length ws
+  pub noted_at : (i : ℕ) → i < end → (b : Bool) × Test i (slice_index ws i) b × (slice_index ws' i ≡ noted b k (slice_index ws i))
+
 -- the worlds of a source with the plain letters wanted, and the waiting letters below k asked for, noted
-pub record NotedBelow (x : Source) (asked k : ℕ) (ws : List ℕ) : Type 0 where
+pub record NotedBelow (x : Source) (asked k : ℕ) (m : Moments) : Type 0 where
+  pub spans : Spans x m
   pub noted_at : (i : ℕ) → i < end_of x → (j : ℕ) →
-      (j < 20 → In j (wanted asked) → In j (slice_index ws i) ↔ (x.run i j ≡ true))
-      × (20 ≤ j → j < k → In j asked → In j (slice_index ws i) ↔ Waits x.run i (waited j))
-      × (k ≤ j → 20 ≤ j → In j (slice_index ws i) → ⊥)
+      (j < 20 → In j (wanted asked) → In j (slice_index m.worlds.at i) ↔ (x.run i j ≡ true))
+      × (20 ≤ j → j < k → In j asked → In j (slice_index m.worlds.at i) ↔ Waits x.run i (waited j))
+      × (k ≤ j → 20 ≤ j → In j (slice_index m.worlds.at i) → ⊥)
 
 -- by the worlds, the literal is true after moment i; or it is untrue from i on
 abbrev pub Comes : List ℕ → ℕ → Literal → ℕ → Type 0

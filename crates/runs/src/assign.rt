@@ -7,41 +7,34 @@ use crate::task::Task;
 use crate::timetable::Timetable;
 use clause::refusal::{Fault, Refusal};
 
-fn offset_of(slot: Option<Task>) -> u16
-    ensures exact { result ≡ the_offset_of slot }
-    ensures small { result ≤ 255 }
+fn offset_of(slot: Option<Task>) -> u8
+    ensures { result ≡ the_offset_of slot }
 {
-    match slot {
-        Some(t) => t.offset as u16,
-        None => 0,
-    }
+    slot.map_or(0, |task| task.offset)
 }
 
 // The greatest offset.
-fn lead_of(tasks: &[Option<Task>]) -> u16
-    ensures exact { result ≡ greatest tasks.now }
-    ensures small { result ≤ 255 }
+fn lead_of(tasks: &[Option<Task>]) -> u8
+    ensures { result ≡ greatest tasks.now }
 {
-    let mut lead: u16 = 0;
-    for o in tasks {
-        let at = offset_of(*o);
-        if at > lead {
-            lead = at;
-        }
-    }
-    lead
+    tasks
+        .iter()
+        .fold(0, |lead, slot| lead.max(offset_of(*slot)))
 }
 
 fn task_of(offset: u16, period: u16, length: u16) -> Option<Task>
     ensures { TaskOf offset period length result }
 {
-    if offset > 255 || period < 1 || period > 64 || length > period {
+    let offset = u8::try_from(offset).ok()?;
+    let period = u8::try_from(period).ok()?;
+    let length = u8::try_from(length).ok()?;
+    if period < 1 || period > 64 || length > period {
         return None;
     }
     Some(Task {
-        offset: offset as u8,
-        period: period as u8,
-        length: length as u8,
+        offset,
+        period,
+        length,
     })
 }
 
@@ -59,17 +52,12 @@ impl Timetable {
     pub fn of(tasks: [Option<Task>; 20]) -> Option<Timetable>
         ensures { MadeOf tasks result }
     {
-        let lead = lead_of(&tasks);
-        match loop_of(&tasks) {
-            None => None,
-            Some(turn) => {
-                if lead + turn > 4096 {
-                    None
-                } else {
-                    Some(Timetable::made(tasks, lead, turn))
-                }
-            }
+        let lead = u16::from(lead_of(&tasks));
+        let turn = loop_of(&tasks)?;
+        if lead + turn > 4096 {
+            return None;
         }
+        Some(Timetable::made(tasks, lead, turn))
     }
 
     // A timetable without tasks: every letter is no at every moment.
@@ -86,17 +74,11 @@ impl Timetable {
         if letter > 19 {
             return Err(Fault::of(Refusal::LetterRange));
         }
-        let Some(task) = task_of(offset, period, length) else {
-            return Err(Fault::of(Refusal::OutOfRange));
-        };
+        let out_of_range = Fault::of(Refusal::OutOfRange);
+        let task = task_of(offset, period, length).ok_or(out_of_range)?;
         let mut tasks = self.tasks;
         tasks[letter as usize] = Some(task);
-        match Timetable::of(tasks) {
-            None => Err(Fault::of(Refusal::OutOfRange)),
-            Some(t) => {
-                *self = t;
-                Ok(())
-            }
-        }
+        *self = Timetable::of(tasks).ok_or(out_of_range)?;
+        Ok(())
     }
 }

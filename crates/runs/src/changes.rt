@@ -2,20 +2,16 @@ ghost use Rattle.std.specs.Prelude.{◌≡◌, ℕ, ◌+◌, ◌^◌, ◌<◌, �
 ghost use Rattle.clause.specs.Bit.{bit};
 ghost use Rattle.runs.specs.Table.{letter_in, Changed, MadeTable, LetterSet};
 
+use crate::source::tested;
 use crate::table::WorldTable;
 use crate::world::{World, Worlds};
 use clause::refusal::{Fault, Refusal};
-
-fn mask(k: u8) -> u32
-    requires { k ≤ 19 }
-    ensures { result ≡ 2 ^ k }
-{
-    1u32 << k
-}
+use clause::sets::{bit_at, mask};
 
 impl World {
+    // Says whether the letter k is true.
     fn change(&mut self, k: u8, yes: bool)
-        requires { k ≤ 19 }
+        requires { k < 64 }
         ensures { (m : ℕ) → (bit self.new.letters m == 1) ≡ (if nat_eq m k then yes else (bit self.old.letters m == 1)) }
     {
         let m = mask(k);
@@ -31,20 +27,17 @@ impl Worlds {
     // Changes one letter of one world in place.
     fn change(&mut self, i: u16, k: u8, yes: bool)
         requires moment { i < 64 }
-        requires letter { k ≤ 19 }
+        requires letter { k < 64 }
         ensures { Changed i k yes self.old.at self.new.at }
     {
-        let world = &mut self.at[i as usize];
-        world.change(k, yes);
+        self.at[i as usize].change(k, yes);
     }
 
     pub(crate) fn tells(&self, i: u16, k: u8) -> bool
-        requires moment { i < 64 }
-        requires letter { k ≤ 19 }
+        requires { i < 64 }
         ensures { result ≡ letter_in self.now.at i k }
     {
-        let world = self.at[i as usize];
-        (world.letters >> k) % 2 == 1
+        bit_at(self.at[i as usize].letters, k)
     }
 }
 
@@ -66,12 +59,7 @@ impl WorldTable {
     pub fn change(&mut self, i: u16, k: u8, yes: bool) -> Result<(), Fault>
         ensures { LetterSet i k yes self.old self.new result }
     {
-        if k > 19 {
-            return Err(Fault::of(Refusal::LetterRange));
-        }
-        if i >= self.lead + self.turn {
-            return Err(Fault::of(Refusal::OutOfRange));
-        }
+        tested(k, i, self.lead + self.turn)?;
         self.worlds.change(i, k, yes);
         Ok(())
     }

@@ -1,6 +1,7 @@
-ghost use Rattle.std.specs.Prelude.{◌≡◌, ◌<◌, ◌≤◌, length};
-ghost use Rattle.runs.specs.Moments.{true_in as the_true_in, LastTrue};
+ghost use Rattle.std.specs.Prelude.{◌≡◌};
+ghost use Rattle.runs.specs.Moments.{true_in as the_true_in, LastTrue, worlds_of};
 
+use crate::moments::Moments;
 use clause::sets::bit_at;
 use clause::syntax::Literal;
 
@@ -11,17 +12,15 @@ pub(crate) fn true_in(world: u64, l: Literal) -> bool
     bit_at(world, l.letter) == l.positive
 }
 
-// From which moment on the literal is untrue: none where it is true somewhere in the loop.
-pub(crate) fn horizon(worlds: &[u64], lead: u16, l: Literal) -> Option<u16>
-    requires { length worlds.now ≤ 4096 }
-    ensures { LastTrue worlds.now lead l result }
-{
-    let mut i = worlds.len() as u16;
-    while i > 0 {
-        i -= 1;
-        if true_in(worlds[i as usize], l) {
-            return if i >= lead { None } else { Some(i + 1) };
-        }
+impl Moments {
+    // From which moment on the literal is untrue: none where it is true somewhere in the loop.
+    pub(crate) fn horizon(&self, l: Literal) -> Option<u16>
+        ensures { LastTrue (worlds_of self.now) self.now.lead l result }
+    {
+        let told = &self.worlds.at[..self.end as usize];
+        let Some(last) = told.iter().rposition(|world| true_in(*world, l)) else {
+            return Some(0);
+        };
+        (last < self.lead as usize).then_some(last as u16 + 1)
     }
-    Some(0)
 }

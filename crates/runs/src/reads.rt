@@ -1,39 +1,27 @@
-ghost use Rattle.std.specs.Prelude.{◌≡◌, ℕ, ◌+◌, ◌<◌, ◌≤◌, ◌&&◌, length, slice_index};
-ghost use Rattle.clause.specs.Bit.{bit, In};
+ghost use Rattle.std.specs.Prelude.{◌≡◌, ℕ, ◌+◌, ◌<◌, ◌≤◌, slice_index};
+ghost use Rattle.clause.specs.Bit.{In};
 ghost use Rattle.clause.specs.Meaning.{waited as waited_for};
 ghost use Rattle.clause.specs.Sets.{literal_of};
 ghost use Rattle.runs.specs.Source.{Source, end_of};
-ghost use Rattle.runs.specs.Moments.{Read, asks, letters, noted, seen, wanted, waits_in, comes_after as the_comes_after, true_in as the_true_in, LastTrue, NotedBelow};
+ghost use Rattle.runs.specs.Moments.{Read, asks, noted, seen, comes_after as the_comes_after, Spans, Noted, NotedBelow};
 
-use crate::horizon::{horizon, true_in};
-use crate::moments::Moments;
+use crate::horizon::true_in;
+use crate::moments::{Masks, Moments};
 use crate::source::RunSource;
 use clause::sets::{bit_at, mask};
-use clause::syntax::{Clause, LitSet, Literal};
-
-fn letters(s: LitSet) -> u64
-    ensures { result ≡ letters s }
-{
-    s.plus | s.minus
-}
+use clause::syntax::{Clause, Literal};
 
 // The letters that a clause asks for.
 pub fn asks(clause: Clause) -> u64
     ensures { (literal_of clause).letter < 64 → result ≡ asks clause }
 {
     match clause {
-        Clause::Initial(n) => letters(n),
-        Clause::Global(n, x) => letters(n) | letters(x),
-        Clause::Eventuality(n, l) => letters(n) | mask(l.letter),
-        Clause::Assumption(x) => letters(x),
-        Clause::Never(n, l) => letters(n) | mask(l.letter),
+        Clause::Initial(n) => n.letters(),
+        Clause::Global(n, x) => n.letters() | x.letters(),
+        Clause::Eventuality(n, l) => n.letters() | mask(l.letter),
+        Clause::Assumption(x) => x.letters(),
+        Clause::Never(n, l) => n.letters() | mask(l.letter),
     }
-}
-
-fn end<R: RunSource>(source: &R) -> u16
-    ensures { result ≡ end_of (R.meaning source.now) }
-{
-    source.lead_in() + source.loop_length()
 }
 
 // The letter k at a moment of the lead-in or the loop.
@@ -42,38 +30,7 @@ fn truth<R: RunSource>(source: &R, k: u8, i: u16) -> bool
     requires early { i < end_of (R.meaning source.now) }
     ensures { result ≡ (R.meaning source.now).run i k }
 {
-    match source.letter(k, i) {
-        Ok(b) => b,
-        Err(_) => false,
-    }
-}
-
-// Notes the letter k in each world where it is true.
-fn note_letter<R: RunSource>(source: &R, k: u8, worlds: &mut [u64])
-    requires plain { k < 20 }
-    requires room { length worlds.old ≡ 4096 }
-    ensures { (i : ℕ) → i < end_of (R.meaning source.now) → slice_index worlds.new i ≡ noted ((R.meaning source.now).run i k) k (slice_index worlds.old i) }
-{
-    let e = end(source);
-    let m = mask(k);
-    for i in 0..e {
-        if truth(source, k, i) {
-            worlds[i as usize] |= m;
-        }
-    }
-}
-
-// Notes the plain letters asked for in worlds without letters.
-fn note_plain<R: RunSource>(source: &R, asked: u64, worlds: &mut [u64])
-    requires room { length worlds.old ≡ 4096 }
-    requires blank { (i : ℕ) → slice_index worlds.old i ≡ 0 }
-    ensures { (i : ℕ) → i < end_of (R.meaning source.now) → slice_index worlds.new i ≡ seen (R.meaning source.now).run asked i 20 }
-{
-    for k in 0..20u8 {
-        if bit_at(asked, k) {
-            note_letter(source, k, worlds);
-        }
-    }
+    source.letter(k, i).unwrap_or(false)
 }
 
 // The literal that a waiting letter waits for.
@@ -83,80 +40,96 @@ fn waited(k: u8) -> Literal
     ensures exact { result ≡ waited_for k }
     ensures plain { result.letter < 20 }
 {
-    if k < 40 {
-        Literal {
-            letter: k - 20,
-            positive: true,
-        }
-    } else {
-        Literal {
-            letter: k - 40,
-            positive: false,
-        }
-    }
+    let positive = k < 40;
+    let letter = if positive { k - 20 } else { k - 40 };
+    Literal { letter, positive }
 }
 
+// Is a literal that is last true before h true at a later moment than i?
 fn comes_after(h: Option<u16>, i: u16) -> bool
     requires { i < 4096 }
     ensures { result ≡ the_comes_after h i }
 {
-    match h {
-        None => true,
-        Some(h) => i + 1 < h,
-    }
+    h.is_none_or(|h| i + 1 < h)
 }
 
-// Notes the waiting letter k in each world where its literal l, last true before h, is waited for.
-fn note_waiting(worlds: &mut [u64], end: u16, h: Option<u16>, l: Literal, k: u8)
-    requires small { end ≤ 4096 }
-    requires room { length worlds.old ≡ 4096 }
-    requires letter { k < 64 }
-    ensures { (i : ℕ) → i < end → slice_index worlds.new i ≡ noted (waits_in h l i (slice_index worlds.old i)) k (slice_index worlds.old i) }
-{
-    let m = mask(k);
-    for i in 0..end {
-        if !true_in(worlds[i as usize], l) && comes_after(h, i) {
-            worlds[i as usize] |= m;
-        }
-    }
-}
-
-// Notes the waiting letter k in each world where it is true.
-fn note_one(worlds: &mut [u64], lead: u16, end: u16, k: u8)
-    requires small { end ≤ 4096 }
-    requires room { length worlds.old ≡ 4096 }
-    requires low { 20 ≤ k }
-    requires high { k < 60 }
-    ensures { (x : Source) (asked : ℕ) → lead ≡ x.lead → end ≡ end_of x → In k asked → NotedBelow x asked k worlds.old → NotedBelow x asked (k + 1) worlds.new }
-{
-    let l = waited(k);
-    let h = horizon(&worlds[0..end as usize], lead, l);
-    note_waiting(worlds, end, h, l, k);
-}
-
-// Notes the waiting letters asked for.
-fn note_all_waiting(worlds: &mut [u64], lead: u16, end: u16, asked: u64)
-    requires small { end ≤ 4096 }
-    requires room { length worlds.old ≡ 4096 }
-    ensures { (x : Source) → lead ≡ x.lead → end ≡ end_of x → NotedBelow x asked 20 worlds.old → NotedBelow x asked 60 worlds.new }
-{
-    for k in 20..60u8 {
-        if bit_at(asked, k) {
-            note_one(worlds, lead, end, k);
+impl Masks {
+    // Notes the letter k at each moment below the end at which the test holds.
+    fn note<F: Fn(u16, u64) -> bool>(&mut self, end: u16, k: u8, test: F)
+        requires room { end ≤ 4096 }
+        requires letter { k < 64 }
+        requires each { (i world : ℕ) → i < end → F.pre test i world }
+        ensures { Noted (F.post test) end k self.old.at self.new.at }
+    {
+        let m = mask(k);
+        for (i, world) in self.at[..end as usize].iter_mut().enumerate() {
+            if test(i as u16, *world) {
+                *world |= m;
+            }
         }
     }
 }
 
 impl Moments {
+    // Notes the plain letter k in each world where it is true.
+    fn note_plain<R: RunSource>(&mut self, source: &R, k: u8)
+        requires plain { k < 20 }
+        requires spans { Spans (R.meaning source.now) self.old }
+        ensures spans { Spans (R.meaning source.now) self.new }
+        ensures noted { (i : ℕ) → i < self.old.end → slice_index self.new.worlds.at i ≡ noted ((R.meaning source.now).run i k) k (slice_index self.old.worlds.at i) }
+    {
+        self.worlds.note(self.end, k, |i, _| truth(source, k, i));
+    }
+
+    // The moments of a source, with the plain letters asked for.
+    fn plain<R: RunSource>(source: &R, asked: u64) -> Moments
+        ensures spans { Spans (R.meaning source.now) result }
+        ensures seen { (i : ℕ) → i < end_of (R.meaning source.now) → slice_index result.worlds.at i ≡ seen (R.meaning source.now).run asked i 20 }
+    {
+        let lead = source.lead_in();
+        let end = lead + source.loop_length();
+        let mut moments = Moments {
+            worlds: Masks { at: [0; 4096] },
+            lead,
+            end,
+        };
+        for k in 0..20u8 {
+            if bit_at(asked, k) {
+                moments.note_plain(source, k);
+            }
+        }
+        moments
+    }
+
+    // Notes the waiting letter k in each world where it is true.
+    fn note_waiting(&mut self, k: u8)
+        requires low { 20 ≤ k }
+        requires high { k < 60 }
+        ensures { (x : Source) (asked : ℕ) → In k asked → NotedBelow x asked k self.old → NotedBelow x asked (k + 1) self.new }
+    {
+        let l = waited(k);
+        let h = self.horizon(l);
+        let waits = |i, world| !true_in(world, l) && comes_after(h, i);
+        self.worlds.note(self.end, k, waits);
+    }
+
+    // Notes the waiting letters asked for.
+    fn note_all_waiting(&mut self, asked: u64)
+        ensures { (x : Source) → NotedBelow x asked 20 self.old → NotedBelow x asked 60 self.new }
+    {
+        for k in 20..60u8 {
+            if bit_at(asked, k) {
+                self.note_waiting(k);
+            }
+        }
+    }
+
     // The worlds of a source, read for the letters asked for.
     pub fn read<R: RunSource>(source: &R, asked: u64) -> Moments
         ensures { Read (R.meaning source.now) asked result }
     {
-        let mut worlds = [0u64; 4096];
-        let lead = source.lead_in();
-        let end = end(source);
-        note_plain(source, asked | (asked >> 20 | asked >> 40), &mut worlds);
-        note_all_waiting(&mut worlds, lead, end, asked);
-        Moments { worlds, lead, end }
+        let mut moments = Moments::plain(source, asked | (asked >> 20 | asked >> 40));
+        moments.note_all_waiting(asked);
+        moments
     }
 }

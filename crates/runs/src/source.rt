@@ -1,8 +1,21 @@
 ghost use Rattle.std.specs.Prelude.{◌≡◌, ℕ, ◌+◌, ◌≤◌};
 ghost use Rattle.runs.specs.Source.{Source};
-ghost use Rattle.runs.specs.Letters.{letter_answer};
+ghost use Rattle.runs.specs.Letters.{letter_answer, Tested};
 
-use clause::refusal::Fault;
+use clause::refusal::{Fault, Refusal};
+
+// Refuses a letter above 19, and a moment from the end on.
+pub(crate) fn tested(k: u8, i: u16, end: u16) -> Result<(), Fault>
+    ensures { Tested k i end result }
+{
+    if k > 19 {
+        return Err(Fault::of(Refusal::LetterRange));
+    }
+    if i >= end {
+        return Err(Fault::of(Refusal::OutOfRange));
+    }
+    Ok(())
+}
 
 // Tells a run. Its meaning is a run, a lead-in and a loop, and it answers as these have it; a question changes nothing.
 pub trait RunSource {

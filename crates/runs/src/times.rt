@@ -3,25 +3,24 @@ ghost use Rattle.runs.specs.Tasks.{due, due_at as the_due_at};
 ghost use Rattle.runs.specs.Times.{means};
 ghost use Rattle.std.proofs.Common.{rules, arith};
 
-use crate::source::RunSource;
+use crate::source::{RunSource, tested};
 use crate::task::Task;
 use crate::timetable::Timetable;
-use clause::refusal::{Fault, Refusal};
+use clause::refusal::Fault;
 
-fn due(t: Task, i: u16) -> bool
-    ensures { result ≡ due t i }
-{
-    let offset = t.offset as u16;
-    offset <= i && (i - offset) % (t.period as u16) < t.length as u16
+impl Task {
+    fn due(self, i: u16) -> bool
+        ensures { result ≡ due self i }
+    {
+        let offset = u16::from(self.offset);
+        offset <= i && (i - offset) % u16::from(self.period) < u16::from(self.length)
+    }
 }
 
 fn due_at(slot: Option<Task>, i: u16) -> bool
     ensures { result ≡ the_due_at slot i }
 {
-    match slot {
-        Some(t) => due(t, i),
-        None => false,
-    }
+    slot.is_some_and(|task| task.due(i))
 }
 
 impl RunSource for Timetable {
@@ -42,12 +41,7 @@ impl RunSource for Timetable {
     }
 
     fn letter(&self, k: u8, i: u16) -> Result<bool, Fault> {
-        if k > 19 {
-            return Err(Fault::of(Refusal::LetterRange));
-        }
-        if i >= self.lead + self.turn {
-            return Err(Fault::of(Refusal::OutOfRange));
-        }
+        tested(k, i, self.lead + self.turn)?;
         Ok(due_at(self.tasks[k as usize], i))
     }
 }

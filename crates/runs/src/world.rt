@@ -1,7 +1,7 @@
 // The letters of one moment: bit k is 1 where letter k is true.
 #[derive(Clone, Copy)]
 pub struct World {
-    pub(crate) letters: u32,
+    pub(crate) letters: u64,
 }
 
 // The worlds of a table.

@@ -2,9 +2,9 @@ ghost use Rattle.std.specs.Prelude.{◌≡◌};
 ghost use Rattle.runs.specs.Table.{means};
 ghost use Rattle.std.proofs.Common.{rules, arith};
 
-use crate::source::RunSource;
+use crate::source::{RunSource, tested};
 use crate::table::WorldTable;
-use clause::refusal::{Fault, Refusal};
+use clause::refusal::Fault;
 
 impl RunSource for WorldTable {
     ghost meaning = { means };
@@ -24,12 +24,7 @@ impl RunSource for WorldTable {
     }
 
     fn letter(&self, k: u8, i: u16) -> Result<bool, Fault> {
-        if k > 19 {
-            return Err(Fault::of(Refusal::LetterRange));
-        }
-        if i >= self.lead + self.turn {
-            return Err(Fault::of(Refusal::OutOfRange));
-        }
+        tested(k, i, self.lead + self.turn)?;
         Ok(self.worlds.tells(i, k))
     }
 }
