@@ -2,7 +2,7 @@ ghost use Rattle.std.specs.Prelude.{◌≡◌, ℕ, ◌≤◌, ◌&&◌, if◌th
 ghost use Rattle.forms.specs.Cuts.{split};
 ghost use Rattle.records.specs.Guards.{wide, after as the_after, no_guards as the_no_guards, guards_from};
 
-use crate::fields::set_at;
+use crate::fields::field as field_at;
 use crate::record::Guards;
 use clause::refusal::Fault;
 use clause::syntax::LitSet;
@@ -50,7 +50,7 @@ pub fn guards(fields: &[u8]) -> Result<(Guards, u16), Fault>
     let mut rest = fields;
     loop {
         let (text, later) = cut(rest, b'\t');
-        let s = set_at(text, field)?;
+        let s: LitSet = field_at(text, field)?;
         let i = count.min(8) as usize;
         let before = at[i];
         at[i] = before.union(s);
