@@ -1,4 +1,5 @@
-ghost use Rattle.std.specs.Prelude.{◌≡◌, List};
+ghost use Rattle.std.specs.Prelude.{◌≡◌, List, length};
+ghost use Rattle.std.specs.Iterator.{at_most};
 ghost use Rattle.forms.specs.Cuts.{split};
 ghost use Rattle.forms.specs.Fields.{Bytes, key_of, fields_of, Next};
 
@@ -37,6 +38,8 @@ impl<'a> Fields<'a> {
 
 impl<'a> Iterator for Fields<'a> {
     type Item = &'a [u8];
+
+    ghost remaining = { λ fields. at_most (length fields) };
 
     ghost next_gives = { λ before field after. Next before field after };
 
