@@ -7,10 +7,9 @@ use Rattle.clause.specs.declared.syntax.Literal.{Literal}
 use Rattle.clause.specs.declared.syntax.LitSet.{LitSet}
 use Rattle.forms.specs.declared.literals.Written.{Written}
 use Rattle.forms.specs.declared.lists.Numbers.{Numbers}
-use Rattle.forms.specs.declared.lists.Letters.{Letters}
 use Rattle.forms.specs.Fields.{one_of, two_of, three_of, four_of, five_of}
 use Rattle.forms.specs.Forms.{number_in, literal_in, set_in, kept}
-use Rattle.forms.specs.Lists.{numbers_in, nine_of, letters_in}
+use Rattle.forms.specs.Lists.{numbers_in, nine_of}
 
 -- a fault of a text's form: its cause, and the field, the key being 1
 abbrev pub misread : Refusal → ℕ → Fault

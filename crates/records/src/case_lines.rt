@@ -3,28 +3,23 @@ ghost use Rattle.forms.specs.Cuts.{split};
 ghost use Rattle.records.specs.Records.{open_of, by_key, record_of};
 
 use crate::fields::{field, misread};
-use crate::guards::{guards, no_guards};
+use crate::guards::guards;
 use crate::record::Record;
 use crate::text_line::TextLine;
 use clause::refusal::{Fault, Refusal};
 use clause::syntax::Clause;
-use forms::cuts::cut;
-use forms::fields::key;
+use forms::fields::{Fields, key};
 
 // Two fields or more: the literal, and then the guards.
 fn open_loop(line: TextLine) -> Result<Record, Fault>
     ensures { result ≡ open_of (split 9 line.entry.text.now) line.entry.ended }
 {
-    let (_, after) = cut(line.text, b'\t');
-    let Some(rest) = after else {
+    let mut fields = Fields::of(line.text);
+    let (Some(_), Some(literal)) = (fields.next(), fields.next()) else {
         return Err(misread(Refusal::FieldCount, 0));
     };
-    let (text, later) = cut(rest, b'\t');
-    let literal = field(text, 2)?;
-    let Some(rest) = later else {
-        return line.closed(3, Record::OpenLoop(literal, no_guards()));
-    };
-    let (found, next) = guards(rest)?;
+    let literal = field(literal, 2)?;
+    let (found, next) = guards(fields)?;
     line.closed(next, Record::OpenLoop(literal, found))
 }
 

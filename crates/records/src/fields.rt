@@ -13,12 +13,7 @@ use forms::numbers::number;
 pub fn misread(refusal: Refusal, field: u16) -> Fault
     ensures { result ≡ the_misread refusal field }
 {
-    Fault {
-        refusal,
-        line: 0,
-        field,
-        detail: 0,
-    }
+    Fault::of(refusal).placed(0, field)
 }
 
 // What a field says, where it is in its form.

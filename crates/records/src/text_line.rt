@@ -25,6 +25,7 @@ impl<'a> TextLine<'a> {
         }
     }
 
+    // A function for each number of fields: their types differ from field to field, so no array has them all.
     // A line of its key alone.
     pub fn bare(self) -> Result<(), Fault>
         ensures { result ≡ no_field tt (split 9 self.entry.text.now) self.entry.ended }
