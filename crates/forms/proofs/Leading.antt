@@ -2,8 +2,9 @@
 use Rattle.std.proofs.Common.{◌≡◌, ℕ, ◌+◌, ◌-◌, ◌*◌, ◌<◌, ◌≤◌, Bool, true, false, ◌⊎◌, List, [], ◌∷◌, length, get_or, take, drop, Some, None, Option, sym, refl, ap, ◌∙◌, ⊎_elim, arith, take_all}
 use Rattle.std.proofs.lemmas.Bool.{cases_eq}
 use Rattle.std.proofs.lemmas.Bool.Decides.{nat_tests}
-use Rattle.forms.specs.Cuts.{split, onto}
-use Rattle.forms.specs.Fields.{and_then, one_of}
+use Rattle.std.specs.List.{onto_first}
+use Rattle.forms.specs.Cuts.{split}
+use Rattle.forms.specs.Fields.{and_then}
 use Rattle.forms.specs.Forms.{Left, Leads, lead, sole, alone, digits_of, number_of, signed, literal_of}
 use Rattle.forms.proofs.Splits.{split_here, split_later, split_some}
 
@@ -29,7 +30,7 @@ none_left [] h = refl
 none_left (x ∷ xs) h = absurd (omega arith)
 
 -- a part that begins with x
-lead_onto : {A : Type 0} (f : List ℕ → Option A) (x : ℕ) (ps : List (List ℕ)) → 0 < length ps → lead f (onto x ps) ≡ lead (λ p. f (x ∷ p)) ps
+lead_onto : {A : Type 0} (f : List ℕ → Option A) (x : ℕ) (ps : List (List ℕ)) → 0 < length ps → lead f (onto_first x ps) ≡ lead (λ p. f (x ∷ p)) ps
 lead_onto f x [] h = absurd (omega arith)
 lead_onto f x (p ∷ ps) h = refl
 
@@ -191,13 +192,6 @@ pub signed_some : (s : Bool) (ps qs : List (List ℕ)) (n : ℕ) → lead number
 signed_some s ps qs n h =
     let q = lead_parts number_of ps qs n h in
     ap (lead (signed s)) q.1 ∙ ap (λ o. and_then (and_then o (λ m. Some (record { letter = m; positive = s }))) (λ x. Some (x, qs))) q.2
-
--- a line of just one field has no second
-pub one_not : (ps : List (List ℕ)) (p xs : List ℕ) (b : ℕ) → ps ≡ p ∷ split b xs → one_of ps ≡ None
-one_not ps p xs b e = ap one_of e ∙ two_fields p (split b xs) (split_some b xs) where
-  two_fields : (p : List ℕ) (qs : List (List ℕ)) → 0 < length qs → one_of (p ∷ qs) ≡ None
-  two_fields p [] h = absurd (omega arith)
-  two_fields p (q ∷ qs) h = refl
 
 -- the same of another text
 left_by : {A S : Type 0} (text : S → List ℕ) (o o' : Option (A × List (List ℕ))) (b b' : ℕ) (x : A) (r : Option S) → o ≡ o' → b' ≤ b → Left text o' b' x r → Left text o b x r

@@ -2,3 +2,4 @@ pub mod Splits
 pub mod Leading
 pub mod Rising
 pub mod Listing
+pub mod Through

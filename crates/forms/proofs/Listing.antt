@@ -1,35 +1,11 @@
 -- Numbers taken one by one into nine places.
-use Rattle.std.proofs.Common.{◌≡◌, ℕ, suc, ◌+◌, ◌-◌, ◌<◌, ◌≤◌, min, cond, ltb, List, [], ◌∷◌, ◌++◌, length, take, set, replicate, Some, None, Option, sym, refl, ap, ◌∙◌, ⊎_elim, arith, take_all}
+use Rattle.std.proofs.Common.{◌≡◌, ℕ, suc, ◌+◌, ◌-◌, ◌<◌, ◌≤◌, min, cond, List, [], ◌∷◌, ◌++◌, length, take, set, replicate, Some, None, Option, sym, refl, ap, ◌∙◌, ⊎_elim, arith, take_all}
 use Rattle.std.proofs.lemmas.Bool.{lt-ltb, le-ltb, cases_lt}
 use Rattle.std.proofs.lemmas.List.{length_push, append_assoc, append-nil, set-append_right, take-append-le}
 use Rattle.forms.specs.declared.lists.Numbers.{Numbers}
-use Rattle.forms.specs.Cuts.{split}
 use Rattle.forms.specs.Fields.{and_then}
-use Rattle.forms.specs.Forms.{lead, number_of}
-use Rattle.forms.specs.Lists.{all_numbers, first_nine, nine_of}
-use Rattle.forms.proofs.Splits.{split_some}
-use Rattle.forms.proofs.Leading.{lead_parts, lead_stops}
-
--- what is left of a list, from the places that are filled
-abbrev pub go : List ℕ → ℕ → List (List ℕ) → Option Numbers
-go at n [] = Some (record { at = at; count = n })
-go at n (p ∷ ps) = and_then (number_of p) (λ k. cond (ltb n 9) (go (set at n k) (n + 1) ps) (go at n ps))
-
-pub go_none : (at : List ℕ) (n : ℕ) (xs : List ℕ) → lead number_of (split 32 xs) ≡ None → go at n (split 32 xs) ≡ None
-go_none at n xs h =
-    let q = lead_stops number_of (split 32 xs) (split_some 32 xs) h in
-    ap (go at n) q.2 ∙ ap (λ o. and_then o (λ k. cond (ltb n 9) (go (set at n k) (n + 1) q.1) (go at n q.1))) q.3
-
-go_lead : (at : List ℕ) (n : ℕ) (ps qs : List (List ℕ)) (k : ℕ) → lead number_of ps ≡ Some (k, qs) → go at n ps ≡ cond (ltb n 9) (go (set at n k) (n + 1) qs) (go at n qs)
-go_lead at n ps qs k h =
-    let q = lead_parts number_of ps qs k h in
-    ap (go at n) q.1 ∙ ap (λ o. and_then o (λ j. cond (ltb n 9) (go (set at n j) (n + 1) qs) (go at n qs))) q.2
-
-pub go_on : (at : List ℕ) (n : ℕ) (ps qs : List (List ℕ)) (k : ℕ) → lead number_of ps ≡ Some (k, qs) → n < 9 → go at n ps ≡ go (set at n k) (n + 1) qs
-go_on at n ps qs k h l = go_lead at n ps qs k h ∙ ap (λ b. cond b (go (set at n k) (n + 1) qs) (go at n qs)) (lt-ltb n 9 l)
-
-pub go_past : (at : List ℕ) (n : ℕ) (ps qs : List (List ℕ)) (k : ℕ) → lead number_of ps ≡ Some (k, qs) → 9 ≤ n → go at n ps ≡ go at n qs
-go_past at n ps qs k h l = go_lead at n ps qs k h ∙ ap (λ b. cond b (go (set at n k) (n + 1) qs) (go at n qs)) (le-ltb n 9 l)
+use Rattle.forms.specs.Forms.{through, number_of}
+use Rattle.forms.specs.Lists.{all_numbers, first_nine, nine_of, with_number}
 
 -- the numbers of the parts after those that were taken
 abbrev with_all : List ℕ → Option (List ℕ) → Option (List ℕ)
@@ -81,33 +57,33 @@ nine_full done k h =
       both m n e h = omega (arith, e, h)
 
 -- filling the places is taking the first nine
-go_taken : (done : List ℕ) (k : ℕ) (ps : List (List ℕ)) → ((ds : List ℕ) → go (first_nine ds).at (first_nine ds).count ps ≡ nine_of (with_all ds (all_numbers ps)))
-    → cond (ltb (first_nine done).count 9) (go (set (first_nine done).at (first_nine done).count k) ((first_nine done).count + 1) ps) (go (first_nine done).at (first_nine done).count ps)
-    ≡ nine_of (with_all (done ++ (k ∷ [])) (all_numbers ps))
-go_taken done k ps h = ⊎_elim
-    (λ l. ap (λ b. cond b (go (set (first_nine done).at (first_nine done).count k) ((first_nine done).count + 1) ps) (go (first_nine done).at (first_nine done).count ps)) (lt-ltb (first_nine done).count 9 (omega (arith, few (length done) l, l)))
-    ∙ ap (λ i. go (set (first_nine done).at i k) ((first_nine done).count + 1) ps) (few (length done) l)
-    ∙ ap (λ (xs : List ℕ). go xs ((first_nine done).count + 1) ps) (nine_at done k l)
-    ∙ ap (λ i. go (first_nine (done ++ (k ∷ []))).at i ps) (nine_count done k l)
-    ∙ h (done ++ (k ∷ [])))
-    (λ l. ap (λ b. cond b (go (set (first_nine done).at (first_nine done).count k) ((first_nine done).count + 1) ps) (go (first_nine done).at (first_nine done).count ps)) (le-ltb (first_nine done).count 9 (omega (arith, many (length done) l)))
-    ∙ ap (λ (z : Numbers). go z.at z.count ps) (sym (nine_full done k l))
-    ∙ h (done ++ (k ∷ [])))
+nine_more : (done : List ℕ) (k : ℕ) → with_number (first_nine done) k ≡ first_nine (done ++ (k ∷ []))
+nine_more done k = ⊎_elim
+    (λ l. let v = first_nine done in
+    ap (λ b. cond b (record { at = set v.at v.count k; count = v.count + 1 }) v) (lt-ltb v.count 9 (omega (arith, few (length done) l, l)))
+    ∙ ap (λ i. record { at = set v.at i k; count = v.count + 1 }) (few (length done) l)
+    ∙ ap (λ (xs : List ℕ). record { at = xs; count = v.count + 1 }) (nine_at done k l)
+    ∙ ap (λ i. record { at = (first_nine (done ++ (k ∷ []))).at; count = i }) (nine_count done k l))
+    (λ l. let v = first_nine done in
+    ap (λ b. cond b (record { at = set v.at v.count k; count = v.count + 1 }) v) (le-ltb v.count 9 (omega (arith, many (length done) l)))
+    ∙ sym (nine_full done k l))
     (cases_lt (length done) 9)
 
-go_part : (done : List ℕ) (o : Option ℕ) (ps : List (List ℕ)) → ((ds : List ℕ) → go (first_nine ds).at (first_nine ds).count ps ≡ nine_of (with_all ds (all_numbers ps)))
-    → and_then o (λ k. cond (ltb (first_nine done).count 9) (go (set (first_nine done).at (first_nine done).count k) ((first_nine done).count + 1) ps) (go (first_nine done).at (first_nine done).count ps))
-    ≡ nine_of (with_all done (and_then o (λ n. and_then (all_numbers ps) (λ ns. Some (n ∷ ns)))))
-go_part done None ps h = refl
-go_part done (Some k) ps h = go_taken done k ps h ∙ ap nine_of (with_more done k (all_numbers ps))
+abbrev pub listed : Numbers → ℕ → Option Numbers
+listed v n = Some (with_number v n)
 
-go_nine : (done : List ℕ) (ps : List (List ℕ)) → go (first_nine done).at (first_nine done).count ps ≡ nine_of (with_all done (all_numbers ps))
-go_nine done [] = ap (λ (xs : List ℕ). Some (first_nine xs)) (sym (append-nil done))
-go_nine done (p ∷ ps) = go_part done (number_of p) ps (λ ds. go_nine ds ps)
+nine_part : (done : List ℕ) (o : Option ℕ) (ps : List (List ℕ)) → ((ds : List ℕ) → through listed number_of (first_nine ds) ps ≡ nine_of (with_all ds (all_numbers ps)))
+    → and_then o (λ k. through listed number_of (with_number (first_nine done) k) ps) ≡ nine_of (with_all done (and_then o (λ n. and_then (all_numbers ps) (λ ns. Some (n ∷ ns)))))
+nine_part done None ps h = refl
+nine_part done (Some k) ps h = ap (λ (v : Numbers). through listed number_of v ps) (nine_more done k) ∙ h (done ++ (k ∷ [])) ∙ ap nine_of (with_more done k (all_numbers ps))
+
+nine_through : (done : List ℕ) (ps : List (List ℕ)) → through listed number_of (first_nine done) ps ≡ nine_of (with_all done (all_numbers ps))
+nine_through done [] = ap (λ (xs : List ℕ). Some (first_nine xs)) (sym (append-nil done))
+nine_through done (p ∷ ps) = nine_part done (number_of p) ps (λ ds. nine_through ds ps)
 
 with_none : (o : Option (List ℕ)) → with_all [] o ≡ o
 with_none None = refl
 with_none (Some ns) = refl
 
-pub go_start : (ps : List (List ℕ)) → nine_of (all_numbers ps) ≡ go (replicate 9 0) 0 ps
-go_start ps = sym (go_nine [] ps ∙ ap nine_of (with_none (all_numbers ps)))
+pub all_through : (ps : List (List ℕ)) → through listed number_of (record { at = replicate 9 0; count = 0 }) ps ≡ nine_of (all_numbers ps)
+all_through ps = nine_through [] ps ∙ ap nine_of (with_none (all_numbers ps))

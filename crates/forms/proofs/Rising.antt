@@ -1,46 +1,46 @@
 -- Parts that rise, taken one by one.
-use Rattle.std.proofs.Common.{◌≡◌, ℕ, ◌+◌, ◌<◌, ◌≤◌, cond, ltb, List, Some, None, ap, ◌∙◌}
-use Rattle.std.proofs.lemmas.Bool.{lt-ltb, le-ltb}
-use Rattle.clause.specs.declared.syntax.LitSet.{LitSet}
-use Rattle.clause.specs.Meaning.{just, ◌∪◌}
-use Rattle.forms.specs.declared.literals.Written.{Written}
-use Rattle.forms.specs.declared.lists.Letters.{Letters}
-use Rattle.forms.specs.Cuts.{split}
+use Rattle.std.proofs.Common.{◌≡◌, ℕ, ◌+◌, Bool, true, false, not, cond, ltb, List, [], ◌∷◌, Some, None, Option, refl, sym, ap, ◌∙◌, ⊎_elim, arith}
+use Rattle.std.proofs.lemmas.Bool.{lt-ltb, le-ltb, cases_lt}
 use Rattle.forms.specs.Fields.{and_then}
-use Rattle.forms.specs.Forms.{lead, literal_of, number_of, kept, rank, rising}
-use Rattle.forms.specs.Lists.{with_letter, rising_letters}
-use Rattle.forms.proofs.Splits.{split_some}
-use Rattle.forms.proofs.Leading.{lead_parts, lead_stops}
+use Rattle.forms.specs.Forms.{through, rises, rising, rising_from}
 
-pub rising_none : (s : LitSet) (least : ℕ) (xs : List ℕ) → lead literal_of (split 32 xs) ≡ None → rising s least (split 32 xs) ≡ None
-rising_none s least xs h =
-    let q = lead_stops literal_of (split 32 xs) (split_some 32 xs) h in
-    ap (rising s least) q.2 ∙ ap (λ o. and_then o (λ w. cond (ltb (rank w) least) None (rising (s ∪ just (kept w)) (rank w + 1) q.1))) q.3
+-- one part more, beside the rank of the last
+abbrev pub risen : {A S : Type 0} → (A → ℕ) → (S → A → S) → S × Option ℕ → A → Option (S × Option ℕ)
+risen rank join p x = cond (rises p.1 (rank x)) (Some (join p.0 x, Some (rank x))) None
 
-rising_lead : (s : LitSet) (least : ℕ) (ps qs : List (List ℕ)) (w : Written) → lead literal_of ps ≡ Some (w, qs) → rising s least ps ≡ cond (ltb (rank w) least) None (rising (s ∪ just (kept w)) (rank w + 1) qs)
-rising_lead s least ps qs w h =
-    let q = lead_parts literal_of ps qs w h in
-    ap (rising s least) q.1 ∙ ap (λ o. and_then o (λ v. cond (ltb (rank v) least) None (rising (s ∪ just (kept v)) (rank v + 1) qs))) q.2
+abbrev pub joined : {S : Type 0} → Option (S × Option ℕ) → Option S
+joined None = None
+joined (Some p) = Some p.0
 
-pub rising_low : (s : LitSet) (least : ℕ) (ps qs : List (List ℕ)) (w : Written) → lead literal_of ps ≡ Some (w, qs) → rank w < least → rising s least ps ≡ None
-rising_low s least ps qs w h l = rising_lead s least ps qs w h ∙ ap (λ b. cond b None (rising (s ∪ just (kept w)) (rank w + 1) qs)) (lt-ltb (rank w) least l)
+-- the least rank that may follow
+abbrev least : Option ℕ → ℕ
+least None = 0
+least (Some m) = m + 1
 
-pub rising_on : (s : LitSet) (least : ℕ) (ps qs : List (List ℕ)) (w : Written) → lead literal_of ps ≡ Some (w, qs) → least ≤ rank w → rising s least ps ≡ rising (s ∪ just (kept w)) (rank w + 1) qs
-rising_on s least ps qs w h l = rising_lead s least ps qs w h ∙ ap (λ b. cond b None (rising (s ∪ just (kept w)) (rank w + 1) qs)) (le-ltb (rank w) least l)
+not_lower : (o : Option ℕ) (n : ℕ) → ltb n (least o) ≡ not (rises o n)
+not_lower None n = le-ltb n 0 (omega arith)
+not_lower (Some m) n = ⊎_elim
+    (λ h. le-ltb n (m + 1) (omega arith) ∙ ap not (sym (lt-ltb m n h)))
+    (λ h. lt-ltb n (m + 1) (omega arith) ∙ ap not (sym (le-ltb m n h)))
+    (cases_lt m n)
 
--- letters without signs
-pub letters_none : (s : Letters) (least : ℕ) (xs : List ℕ) → lead number_of (split 32 xs) ≡ None → rising_letters s least (split 32 xs) ≡ None
-letters_none s least xs h =
-    let q = lead_stops number_of (split 32 xs) (split_some 32 xs) h in
-    ap (rising_letters s least) q.2 ∙ ap (λ o. and_then o (λ n. cond (ltb n least) None (rising_letters (with_letter s n) (n + 1) q.1))) q.3
+module _ {A S : Type 0} (rank : A → ℕ) (join : S → A → S) (form : List ℕ → Option A) where
+  on_part : (s : S) (last : Option ℕ) (o : Option A) (ps : List (List ℕ))
+      → ((t : S) (m : ℕ) → rising_from rank join form t (m + 1) ps ≡ joined (through (risen rank join) form (t, Some m) ps))
+      → and_then o (λ x. cond (ltb (rank x) (least last)) None (rising_from rank join form (join s x) (rank x + 1) ps))
+      ≡ joined (and_then o (λ x. and_then (risen rank join (s, last) x) (λ t. through (risen rank join) form t ps)))
+  on_part s last None ps h = refl
+  on_part s last (Some x) ps h =
+      ap (λ b. cond b None (rising_from rank join form (join s x) (rank x + 1) ps)) (not_lower last (rank x))
+      ∙ by_risen (rises last (rank x)) where
+        by_risen : (b : Bool) → cond (not b) None (rising_from rank join form (join s x) (rank x + 1) ps)
+            ≡ joined (and_then (cond b (Some (join s x, Some (rank x))) None) (λ t. through (risen rank join) form t ps))
+        by_risen true = h (join s x) (rank x)
+        by_risen false = refl
 
-letters_lead : (s : Letters) (least : ℕ) (ps qs : List (List ℕ)) (n : ℕ) → lead number_of ps ≡ Some (n, qs) → rising_letters s least ps ≡ cond (ltb n least) None (rising_letters (with_letter s n) (n + 1) qs)
-letters_lead s least ps qs n h =
-    let q = lead_parts number_of ps qs n h in
-    ap (rising_letters s least) q.1 ∙ ap (λ o. and_then o (λ m. cond (ltb m least) None (rising_letters (with_letter s m) (m + 1) qs))) q.2
+  rising_last : (s : S) (last : Option ℕ) (ps : List (List ℕ)) → rising_from rank join form s (least last) ps ≡ joined (through (risen rank join) form (s, last) ps)
+  rising_last s last [] = refl
+  rising_last s last (p ∷ ps) = on_part s last (form p) ps (λ t m. rising_last t (Some m) ps)
 
-pub letters_low : (s : Letters) (least : ℕ) (ps qs : List (List ℕ)) (n : ℕ) → lead number_of ps ≡ Some (n, qs) → n < least → rising_letters s least ps ≡ None
-letters_low s least ps qs n h l = letters_lead s least ps qs n h ∙ ap (λ b. cond b None (rising_letters (with_letter s n) (n + 1) qs)) (lt-ltb n least l)
-
-pub letters_on : (s : Letters) (least : ℕ) (ps qs : List (List ℕ)) (n : ℕ) → lead number_of ps ≡ Some (n, qs) → least ≤ n → rising_letters s least ps ≡ rising_letters (with_letter s n) (n + 1) qs
-letters_on s least ps qs n h l = letters_lead s least ps qs n h ∙ ap (λ b. cond b None (rising_letters (with_letter s n) (n + 1) qs)) (le-ltb n least l)
+  pub rising_through : (s : S) (ps : List (List ℕ)) → rising rank join form s ps ≡ joined (through (risen rank join) form (s, None) ps)
+  rising_through s ps = rising_last s None ps

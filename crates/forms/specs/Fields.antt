@@ -1,5 +1,7 @@
 -- The fields of a line, where their number is right.
-use Rattle.std.specs.Prelude.{ℕ, List, [], ◌∷◌, Some, None, Option}
+use Rattle.std.specs.Prelude.{◌≡◌, ℕ, List, [], ◌∷◌, Some, None, Option}
+use Rattle.std.specs.Borrow.{Bor}
+use Rattle.forms.specs.Cuts.{split}
 
 abbrev pub Bytes : Type 0
 Bytes = List ℕ
@@ -8,15 +10,25 @@ abbrev pub and_then : {A B : Type 0} → Option A → (A → Option B) → Optio
 and_then None f = None
 and_then (Some x) f = f x
 
--- a key is exactly one byte; 0 is no key
-abbrev pub byte_of : Bytes → ℕ
-byte_of [] = 0
-byte_of (k ∷ []) = k
-byte_of (k ∷ j ∷ ks) = 0
+-- the fields of a text, if there is one
+abbrev pub fields_of : Option (Bor Bytes) → List Bytes
+fields_of None = []
+fields_of (Some s) = split 9 s.now
+
+-- the next of these fields, and those after it
+abbrev pub Next : List Bytes → Option (Bor Bytes) → List Bytes → Type 0
+Next before None after = (before ≡ []) × (after ≡ [])
+Next before (Some f) after = before ≡ f.now ∷ after
+
+-- a key is exactly one byte
+abbrev pub byte_of : Bytes → Option ℕ
+byte_of [] = None
+byte_of (k ∷ []) = Some k
+byte_of (k ∷ j ∷ ks) = None
 
 -- the key of a line
-abbrev pub key_of : List Bytes → ℕ
-key_of [] = 0
+abbrev pub key_of : List Bytes → Option ℕ
+key_of [] = None
 key_of (f ∷ fs) = byte_of f
 
 -- just one field

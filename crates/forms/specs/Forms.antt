@@ -27,6 +27,24 @@ sole f [] = None
 sole f (p ∷ []) = f p
 sole f (p ∷ q ∷ ps) = None
 
+-- a state taken through what the parts say, one after another
+abbrev pub through : {A S : Type 0} → (S → A → Option S) → (List ℕ → Option A) → S → List (List ℕ) → Option S
+through f form s [] = Some s
+through f form s (p ∷ ps) = and_then (form p) (λ x. and_then (f s x) (λ t. through f form t ps))
+
+-- above the rank before, where there is one
+abbrev pub rises : Option ℕ → ℕ → Bool
+rises None n = true
+rises (Some m) n = nat_lt m n
+
+-- s with what the parts say joined to it, each of rank least or above, and above the one before
+abbrev pub rising_from : {A S : Type 0} → (A → ℕ) → (S → A → S) → (List ℕ → Option A) → S → ℕ → List (List ℕ) → Option S
+rising_from rank join form s least [] = Some s
+rising_from rank join form s least (p ∷ ps) = and_then (form p) (λ x. cond (nat_lt (rank x) least) None (rising_from rank join form (join s x) (rank x + 1) ps))
+
+abbrev pub rising : {A S : Type 0} → (A → ℕ) → (S → A → S) → (List ℕ → Option A) → S → List (List ℕ) → Option S
+rising rank join form s ps = rising_from rank join form s 0 ps
+
 abbrev pub is_digit : ℕ → Bool
 is_digit d = nat_le 48 d && nat_le d 57
 
@@ -62,10 +80,9 @@ kept w = record { letter = min w.letter 63; positive = w.positive }
 abbrev pub rank : Written → ℕ
 rank w = cond w.positive (2 * w.letter) (2 * w.letter + 1)
 
--- s with the literals of the parts, each of rank least or above, and above the one before
-abbrev pub rising : LitSet → ℕ → List (List ℕ) → Option LitSet
-rising s least [] = Some s
-rising s least (p ∷ ps) = and_then (literal_of p) (λ w. cond (nat_lt (rank w) least) None (rising (s ∪ just (kept w)) (rank w + 1) ps))
+-- s with one literal more
+abbrev pub with_literal : LitSet → Written → LitSet
+with_literal s w = s ∪ just (kept w)
 
 -- one literal
 abbrev pub literal_in : List ℕ → Option Written
@@ -83,4 +100,4 @@ is_dot (c ∷ d ∷ cs) = false
 
 -- `.` for the empty set, or literals parted by single spaces
 abbrev pub set_in : List ℕ → Option LitSet
-set_in field = cond (is_dot field) (Some none) (rising none 0 (split 32 field))
+set_in field = cond (is_dot field) (Some none) (rising rank with_literal literal_of none (split 32 field))

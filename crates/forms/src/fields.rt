@@ -1,89 +1,51 @@
-ghost use Rattle.std.specs.Prelude.{◌≡◌, Some, None, MatchOption};
+ghost use Rattle.std.specs.Prelude.{◌≡◌, List, length};
+ghost use Rattle.std.specs.Iterator.{at_most};
 ghost use Rattle.forms.specs.Cuts.{split};
-ghost use Rattle.forms.specs.Fields.{byte_of, key_of, one_of, two_of, three_of, four_of, five_of};
+ghost use Rattle.forms.specs.Fields.{Bytes, key_of, fields_of, Next};
 
 use crate::cuts::cut;
+use std::marker::Model;
 
-fn byte(first: &[u8]) -> u8
-    ensures { result ≡ byte_of first.now }
-{
-    match first {
-        [k] => *k,
-        _ => 0,
-    }
-}
-
-// The key of a line: exactly one byte, or 0, which is no key.
-pub fn key(line: &[u8]) -> u8
+// The key of a line: exactly one byte.
+pub fn key(line: &[u8]) -> Option<u8>
     ensures { result ≡ key_of (split 9 line.now) }
 {
-    let (first, _) = cut(line, b'\t');
-    byte(first)
-}
-
-// The field of a line that has just one.
-pub fn one(line: &[u8]) -> Option<&[u8]>
-    ensures { MatchOption result (one_of (split 9 line.now) ≡ None) (λ a. one_of (split 9 line.now) ≡ Some a.now) }
-{
-    let (a, after) = cut(line, b'\t');
-    match after {
-        None => Some(a),
-        Some(_) => None,
+    match cut(line, b'\t') {
+        ([k], _) => Some(*k),
+        _ => None,
     }
 }
 
-// The fields of a line that has just two.
-pub fn two(line: &[u8]) -> Option<(&[u8], &[u8])>
-    ensures { MatchOption result (two_of (split 9 line.now) ≡ None) (λ p. two_of (split 9 line.now) ≡ Some (p.0.now, p.1.now)) }
-{
-    let (a, after) = cut(line, b'\t');
-    let Some(rest) = after else {
-        return None;
-    };
-    let Some(b) = one(rest) else {
-        return None;
-    };
-    Some((a, b))
+// The fields of a line that are still to come.
+#[derive(Drop)]
+pub struct Fields<'a> {
+    rest: Option<&'a [u8]>,
 }
 
-// The fields of a line that has just three.
-pub fn three(line: &[u8]) -> Option<(&[u8], &[u8], &[u8])>
-    ensures { MatchOption result (three_of (split 9 line.now) ≡ None) (λ p. three_of (split 9 line.now) ≡ Some (p.0.now, p.1.now, p.2.now)) }
-{
-    let (a, after) = cut(line, b'\t');
-    let Some(rest) = after else {
-        return None;
-    };
-    let Some((b, c)) = two(rest) else {
-        return None;
-    };
-    Some((a, b, c))
+impl<'a> Model for Fields<'a> {
+    ghost Value = { List Bytes };
+
+    ghost view = { λ fields. fields_of fields.rest };
 }
 
-// The fields of a line that has just four.
-pub fn four(line: &[u8]) -> Option<(&[u8], &[u8], &[u8], &[u8])>
-    ensures { MatchOption result (four_of (split 9 line.now) ≡ None) (λ p. four_of (split 9 line.now) ≡ Some (p.0.now, p.1.now, p.2.now, p.3.now)) }
-{
-    let (a, after) = cut(line, b'\t');
-    let Some(rest) = after else {
-        return None;
-    };
-    let Some((b, c, d)) = three(rest) else {
-        return None;
-    };
-    Some((a, b, c, d))
+impl<'a> Fields<'a> {
+    pub fn of(line: &'a [u8]) -> Fields<'a>
+        ensures { result ≡ split 9 line.now }
+    {
+        Fields { rest: Some(line) }
+    }
 }
 
-// The fields of a line that has just five.
-pub fn five(line: &[u8]) -> Option<(&[u8], &[u8], &[u8], &[u8], &[u8])>
-    ensures { MatchOption result (five_of (split 9 line.now) ≡ None) (λ p. five_of (split 9 line.now) ≡ Some (p.0.now, p.1.now, p.2.now, p.3.now, p.4.now)) }
-{
-    let (a, after) = cut(line, b'\t');
-    let Some(rest) = after else {
-        return None;
-    };
-    let Some((b, c, d, e)) = four(rest) else {
-        return None;
-    };
-    Some((a, b, c, d, e))
+impl<'a> Iterator for Fields<'a> {
+    type Item = &'a [u8];
+
+    ghost remaining = { λ fields. at_most (length fields) };
+
+    ghost next_gives = { λ before field after. Next before field after };
+
+    fn next(&mut self) -> Option<&'a [u8]> {
+        let (field, later) = cut(self.rest?, b'\t');
+        self.rest = later;
+        Some(field)
+    }
 }

@@ -6,3 +6,4 @@ pub mod fields;
 pub mod lists;
 pub mod literals;
 pub mod numbers;
+pub mod parts;

@@ -1,11 +1,13 @@
-ghost use Rattle.std.specs.Prelude.{◌≡◌, ℕ, ◌≤◌};
+ghost use Rattle.std.specs.Prelude.{◌≡◌, ℕ, ◌≤◌, min, take};
 ghost use Rattle.forms.specs.Cuts.{split};
-ghost use Rattle.forms.specs.Lists.{all_numbers, numbers_in, nine_of, with_letter as the_with, rising_letters, no_letters, letters_in};
+ghost use Rattle.forms.specs.Forms.{rising, number_of};
+ghost use Rattle.forms.specs.Lists.{numbers_in, nine_of, with_number, with_letter, no_letters, letters_in};
 
 use crate::literals::is_dot;
-use crate::numbers::lead_number;
+use crate::parts::{fold_parts, rises};
 
 // The first nine numbers of a list, zeros after the last: nine stand for nine or more.
+// Nine places and a count, since the library allocates nothing, and a `Vec` would.
 #[derive(Clone, Copy)]
 pub struct Numbers {
     pub at: [u16; 9],
@@ -19,24 +21,52 @@ pub struct Letters {
     pub over: bool,
 }
 
-fn listed(field: &[u8]) -> Option<Numbers>
-    ensures { result ≡ nine_of (all_numbers (split 32 field.now)) }
-{
-    let mut at = [0u16; 9];
-    let mut count: u8 = 0;
-    let mut rest = field;
-    loop {
-        let Some((n, after)) = lead_number(rest) else {
-            return None;
-        };
-        if count < 9 {
-            at[count as usize] = n;
-            count += 1;
+impl Numbers {
+    const NONE: Numbers = Numbers {
+        at: [0; 9],
+        count: 0,
+    };
+
+    // One number more, where there is a place for it.
+    fn with(self, n: u16) -> Numbers
+        ensures { result ≡ with_number self n }
+    {
+        let mut numbers = self;
+        if numbers.count < 9 {
+            numbers.at[numbers.count as usize] = n;
+            numbers.count += 1;
         }
-        let Some(next) = after else {
-            return Some(Numbers { at, count });
-        };
-        rest = next;
+        numbers
+    }
+
+    // The numbers, without the places after them.
+    pub fn as_slice(&self) -> &[u16]
+        ensures { result.now ≡ take (min self.now.count 9) self.now.at }
+    {
+        &self.at[..self.count.min(9) as usize]
+    }
+}
+
+impl Letters {
+    const NONE: Letters = Letters {
+        mask: 0,
+        over: false,
+    };
+
+    fn with(self, n: u16) -> Letters
+        ensures { result ≡ with_letter self n }
+    {
+        if n < 20 {
+            Letters {
+                mask: self.mask | 1u32 << n,
+                over: self.over,
+            }
+        } else {
+            Letters {
+                mask: self.mask,
+                over: true,
+            }
+        }
     }
 }
 
@@ -45,54 +75,32 @@ pub fn number_list(field: &[u8]) -> Option<Numbers>
     ensures { result ≡ nine_of (numbers_in field.now) }
 {
     if is_dot(field) {
-        Some(Numbers {
-            at: [0u16; 9],
-            count: 0,
-        })
-    } else {
-        listed(field)
+        return Some(Numbers::NONE);
     }
+    fold_parts(
+        field,
+        Numbers::NONE,
+        |so_far: Numbers, n: u16| Some(so_far.with(n)),
+    )
 }
 
-fn with_letter(s: Letters, n: u16) -> Letters
-    ensures { result ≡ the_with s n }
+// The letters of a field, parted by single spaces, each above the one before.
+fn rising_letters(field: &[u8]) -> Option<Letters>
+    ensures { result ≡ rising (λ n. n) with_letter number_of no_letters (split 32 field.now) }
 {
-    if n < 20 {
-        Letters {
-            mask: s.mask | 1u32 << n,
-            over: s.over,
-        }
-    } else {
-        Letters {
-            mask: s.mask,
-            over: true,
-        }
-    }
-}
-
-fn rising(field: &[u8]) -> Option<Letters>
-    ensures { result ≡ rising_letters no_letters 0 (split 32 field.now) }
-{
-    let mut so_far = Letters {
-        mask: 0,
-        over: false,
-    };
-    let mut least: u32 = 0;
-    let mut rest = field;
-    loop {
-        let Some((n, after)) = lead_number(rest) else {
-            return None;
-        };
-        if (n as u32) < least {
-            return None;
-        }
-        so_far = with_letter(so_far, n);
-        let Some(next) = after else {
-            return Some(so_far);
-        };
-        least = n as u32 + 1;
-        rest = next;
-    }
+    let found = fold_parts(
+        field,
+        (Letters::NONE, None),
+        |(so_far, before): (Letters, Option<u32>), n: u16| {
+            let rank = u32::from(n);
+            if rises(before, rank) {
+                Some((so_far.with(n), Some(rank)))
+            } else {
+                None
+            }
+        },
+    );
+    Some(found?.0)
 }
 
 // A field of letters without signs, each above the one before, or `.` for none.
@@ -100,11 +108,7 @@ pub fn letter_list(field: &[u8]) -> Option<Letters>
     ensures { result ≡ letters_in field.now }
 {
     if is_dot(field) {
-        Some(Letters {
-            mask: 0,
-            over: false,
-        })
-    } else {
-        rising(field)
+        return Some(Letters::NONE);
     }
+    rising_letters(field)
 }

@@ -1,9 +1,10 @@
 ghost use Rattle.std.specs.Prelude.{◌≡◌, ℕ, ◌<◌, ◌≤◌, length};
-ghost use Rattle.clause.specs.Meaning.{none, just, ◌∪◌};
+ghost use Rattle.clause.specs.Meaning.{none};
 ghost use Rattle.forms.specs.Cuts.{split};
-ghost use Rattle.forms.specs.Forms.{Leads, lead, signed as the_signed, literal_of, literal_in, kept as the_kept, rank as the_rank, rising, is_dot as the_dot, set_in};
+ghost use Rattle.forms.specs.Forms.{Leads, lead, signed as the_signed, literal_of, literal_in, with_literal, kept as the_kept, rank as the_rank, rising, is_dot as the_dot, set_in};
 
 use crate::numbers::lead_number;
+use crate::parts::{fold_parts, rises, sole};
 use clause::syntax::{LitSet, Literal};
 
 // A literal as it is written.
@@ -16,10 +17,8 @@ pub struct Written {
 fn signed(positive: bool, text: &[u8]) -> Option<(Written, Option<&[u8]>)>
     ensures { Leads (λ s. s.now) (lead (the_signed positive) (split 32 text.now)) (length text.now) result }
 {
-    match lead_number(text) {
-        Some((letter, rest)) => Some((Written { letter, positive }, rest)),
-        None => None,
-    }
+    let (letter, rest) = lead_number(text)?;
+    Some((Written { letter, positive }, rest))
 }
 
 // The literal before the first space, and what stands after that.
@@ -62,46 +61,32 @@ impl Written {
 pub fn literal(field: &[u8]) -> Option<Written>
     ensures { result ≡ literal_in field.now }
 {
-    let Some((w, after)) = lead_literal(field) else {
-        return None;
-    };
-    match after {
-        None => Some(w),
-        Some(_) => None,
-    }
+    sole(field)
 }
 
 // The literals of a field, parted by single spaces, each above the one before.
 fn literals(field: &[u8]) -> Option<LitSet>
-    ensures { result ≡ rising none 0 (split 32 field.now) }
+    ensures { result ≡ rising the_rank with_literal literal_of none (split 32 field.now) }
 {
-    let mut so_far = LitSet { plus: 0, minus: 0 };
-    let mut least: u32 = 0;
-    let mut rest = field;
-    loop {
-        let Some((w, after)) = lead_literal(rest) else {
-            return None;
-        };
-        let at = w.rank();
-        if at < least {
-            return None;
-        }
-        so_far = so_far.union(LitSet::of(w.kept()));
-        let Some(next) = after else {
-            return Some(so_far);
-        };
-        least = at + 1;
-        rest = next;
-    }
+    let found = fold_parts(
+        field,
+        (LitSet::NONE, None),
+        |(so_far, before): (LitSet, Option<u32>), w: Written| {
+            if rises(before, w.rank()) {
+                Some((so_far.union(LitSet::of(w.kept())), Some(w.rank())))
+            } else {
+                None
+            }
+        },
+    );
+    Some(found?.0)
 }
 
+// Is the field `.`, for none?
 pub fn is_dot(field: &[u8]) -> bool
     ensures { result ≡ the_dot field.now }
 {
-    match field {
-        [b'.'] => true,
-        _ => false,
-    }
+    matches!(field, [b'.'])
 }
 
 // A field of a set of literals.
@@ -109,7 +94,7 @@ pub fn set(field: &[u8]) -> Option<LitSet>
     ensures { result ≡ set_in field.now }
 {
     if is_dot(field) {
-        Some(LitSet { plus: 0, minus: 0 })
+        Some(LitSet::NONE)
     } else {
         literals(field)
     }

@@ -2,6 +2,8 @@ ghost use Rattle.std.specs.Prelude.{◌≡◌, ℕ, ◌<◌, length};
 ghost use Rattle.forms.specs.Cuts.{split};
 ghost use Rattle.forms.specs.Forms.{Leads, lead, alone as the_alone, digits_of, number_of, number_in};
 
+use crate::parts::sole;
+
 // The number n, where its part of the text ends here: what stands after the space, if there is one.
 fn alone(n: u16, text: &[u8]) -> Option<(u16, Option<&[u8]>)>
     ensures { Leads (λ s. s.now) (lead (the_alone n) (split 32 text.now)) (length text.now) result }
@@ -42,11 +44,5 @@ pub fn lead_number(text: &[u8]) -> Option<(u16, Option<&[u8]>)>
 pub fn number(field: &[u8]) -> Option<u16>
     ensures { result ≡ number_in field.now }
 {
-    let Some((n, after)) = lead_number(field) else {
-        return None;
-    };
-    match after {
-        None => Some(n),
-        Some(_) => None,
-    }
+    sole(field)
 }

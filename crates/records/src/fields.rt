@@ -1,5 +1,7 @@
-ghost use Rattle.std.specs.Prelude.{◌≡◌, ℕ, ◌<◌};
-ghost use Rattle.records.specs.Fields.{misread as the_misread, set_at, literal_at as the_literal_at, number_at, letter_at, numbers_at as the_numbers_at, letters_at as the_letters_at};
+ghost use Rattle.std.specs.Prelude.{◌≡◌, ℕ, List, Option};
+ghost use Rattle.forms.specs.Forms.{number_in, set_in};
+ghost use Rattle.forms.specs.Lists.{letters_in};
+ghost use Rattle.records.specs.Fields.{misread as the_misread, formed, literal_of, letter_of, numbers_of};
 
 use clause::refusal::{Fault, Refusal};
 use clause::syntax::{LitSet, Literal};
@@ -11,65 +13,69 @@ use forms::numbers::number;
 pub fn misread(refusal: Refusal, field: u16) -> Fault
     ensures { result ≡ the_misread refusal field }
 {
-    Fault {
-        refusal,
-        line: 0,
-        field,
-        detail: 0,
+    Fault::of(refusal).placed(0, field)
+}
+
+// What a field says, where it is in its form.
+pub trait Form: Sized {
+    ghost form: { List ℕ → Option Self };
+
+    fn read(text: &[u8]) -> Option<Self>
+        ensures { result ≡ form text.now };
+}
+
+impl Form for LitSet {
+    ghost form = { set_in };
+
+    fn read(text: &[u8]) -> Option<LitSet> {
+        set(text)
     }
 }
 
-pub fn set_at(text: &[u8], k: u16) -> Result<LitSet, Fault>
-    ensures { result ≡ set_at k text.now }
-{
-    match set(text) {
-        Some(s) => Ok(s),
-        None => Err(misread(Refusal::FieldForm, k)),
+impl Form for Literal {
+    ghost form = { literal_of };
+
+    fn read(text: &[u8]) -> Option<Literal> {
+        literal(text).map(|w| w.kept())
     }
 }
 
-pub fn literal_at(text: &[u8], k: u16) -> Result<Literal, Fault>
-    ensures { result ≡ the_literal_at k text.now }
-{
-    match literal(text) {
-        Some(w) => Ok(w.kept()),
-        None => Err(misread(Refusal::FieldForm, k)),
-    }
-}
+impl Form for u16 {
+    ghost form = { number_in };
 
-pub fn number_at(text: &[u8], k: u16) -> Result<u16, Fault>
-    ensures { result ≡ number_at k text.now }
-{
-    match number(text) {
-        Some(n) => Ok(n),
-        None => Err(misread(Refusal::FieldForm, k)),
+    fn read(text: &[u8]) -> Option<u16> {
+        number(text)
     }
 }
 
 // A letter above 63, which no call takes, is kept as 63.
-pub fn letter_at(text: &[u8], k: u16) -> Result<u8, Fault>
-    ensures { result ≡ letter_at k text.now }
-{
-    match number(text) {
-        Some(n) => Ok(n.min(63) as u8),
-        None => Err(misread(Refusal::FieldForm, k)),
+impl Form for u8 {
+    ghost form = { letter_of };
+
+    fn read(text: &[u8]) -> Option<u8> {
+        Some(number(text)?.min(63) as u8)
     }
 }
 
-pub fn numbers_at(text: &[u8], k: u16) -> Result<Numbers, Fault>
-    ensures { result ≡ the_numbers_at k text.now }
-{
-    match number_list(text) {
-        Some(ns) => Ok(ns),
-        None => Err(misread(Refusal::FieldForm, k)),
+impl Form for Numbers {
+    ghost form = { numbers_of };
+
+    fn read(text: &[u8]) -> Option<Numbers> {
+        number_list(text)
     }
 }
 
-pub fn letters_at(text: &[u8], k: u16) -> Result<Letters, Fault>
-    ensures { result ≡ the_letters_at k text.now }
-{
-    match letter_list(text) {
-        Some(s) => Ok(s),
-        None => Err(misread(Refusal::FieldForm, k)),
+impl Form for Letters {
+    ghost form = { letters_in };
+
+    fn read(text: &[u8]) -> Option<Letters> {
+        letter_list(text)
     }
+}
+
+// The field k of a line, which has to be in its form.
+pub fn field<T: Form>(text: &[u8], k: u16) -> Result<T, Fault>
+    ensures { result ≡ formed k (T.form text.now) }
+{
+    T::read(text).ok_or(misread(Refusal::FieldForm, k))
 }

@@ -6,3 +6,4 @@ pub mod fields;
 pub mod guards;
 pub mod record;
 pub mod run_lines;
+pub mod text_line;

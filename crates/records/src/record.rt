@@ -1,13 +1,47 @@
+ghost use Rattle.std.specs.Prelude.{◌≡◌, ℕ, ◌+◌, ◌<◌, min, take};
+ghost use Rattle.records.specs.Guards.{with_guard};
+
 use clause::syntax::{Clause, LitSet, Literal};
 use forms::lists::{Letters, Numbers};
 
 // The guards of an `O` line: the first eight, in the ninth place the union of all others, zeros after the last; nine
-// stand for nine or more. `over` is the field of the first guard with a letter above 59, 0 where there is none.
+// stand for nine or more. `over` is the field of the first guard with a letter above 59.
+// Nine places and a count, since the library allocates nothing, and a `Vec` would.
 #[derive(Clone, Copy)]
 pub struct Guards {
     pub at: [LitSet; 9],
     pub count: u8,
-    pub over: u16,
+    pub over: Option<u16>,
+}
+
+impl Guards {
+    pub const NONE: Guards = Guards {
+        at: [LitSet::NONE; 9],
+        count: 0,
+        over: None,
+    };
+
+    // One guard more, which stands in the field k.
+    pub fn with(self, k: u16, s: LitSet) -> Guards
+        ensures { result ≡ with_guard self k s }
+    {
+        let mut guards = self;
+        let place = guards.count.min(8) as usize;
+        let before = guards.at[place];
+        guards.at[place] = before.union(s);
+        guards.count = guards.count.min(8) + 1;
+        if guards.over.is_none() && s.over(59) {
+            guards.over = Some(k);
+        }
+        guards
+    }
+
+    // The guards, without the places after them.
+    pub fn as_slice(&self) -> &[LitSet]
+        ensures { result.now ≡ take (min self.now.count 9) self.now.at }
+    {
+        &self.at[..self.count.min(9) as usize]
+    }
 }
 
 // What a line of a case text asks for. A letter above 63, which no call takes, is kept as 63.
