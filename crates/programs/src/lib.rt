@@ -1,4 +1,4 @@
-// What the programs share: how they start, and how they end.
+// What the programs share: what their arguments ask for, and how they end.
 #![tactic(auto)]
 
 pub mod endings;

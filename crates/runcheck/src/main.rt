@@ -2,8 +2,8 @@
 #![tactic(auto)]
 
 use lines::line::Line;
-use programs::endings::{Ended, conclude};
-use programs::starts::start;
+use programs::endings::{Ended, conclude, exit_code};
+use programs::starts::asks_for_help;
 use reports::files::read_text;
 use reports::report::Report;
 use runtext::checks::show_text;
@@ -30,5 +30,9 @@ fn judge(rt: &HostRuntime, paths: &[String]) -> Result<(), Ended> {
 
 fn main(rt: HostRuntime) -> io::Result<ExitCode> {
     let paths: Vec<String> = env::args(&rt)?.skip(1).collect(rt.alloc())?;
-    start(&rt, &paths, HELP, || judge(&rt, &paths))
+    if asks_for_help(&paths) {
+        println!(rt; "{HELP}")?;
+        return Ok(ExitCode::SUCCESS);
+    }
+    exit_code(judge(&rt, &paths))
 }
