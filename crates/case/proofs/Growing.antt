@@ -1,5 +1,5 @@
 -- A table and its state grow by the lines that are written.
-use Rattle.std.proofs.Common.{◌≡◌, ℕ, zero, suc, ◌+◌, ◌<◌, ◌≤◌, leb, List, [], ◌∷◌, ◌++◌, length, take, drop, set, Ok, Err, Result, sym, refl, ap, ◌∙◌, subst, inl, arith}
+use Rattle.std.proofs.Common.{◌≡◌, ℕ, zero, suc, ◌+◌, ◌<◌, ◌≤◌, Option, List, [], ◌∷◌, ◌++◌, length, take, drop, set, Ok, Err, Result, sym, refl, ap, ◌∙◌, subst, inl, arith}
 use Rattle.std.specs.List.{AllByRecursion}
 use Rattle.std.proofs.lemmas.List.{append_assoc, length-append, length-map, length-take-le, drop-drop}
 use Rattle.clause.specs.declared.refusal.Fault.{Fault}
@@ -13,10 +13,10 @@ use Rattle.protocol.proofs.Causing.{none_both, first_after, first_left, not_if}
 use Rattle.protocol.proofs.Adding.{one_place, adding_result}
 use Rattle.lines.specs.declared.line.Line.{Line}
 use Rattle.lines.specs.View.{line_of, Tidy, Written, BlankFrom, IsBlank}
+use Rattle.lines.specs.Named.{LoopFrom}
 use Rattle.lines.proofs.Writing.{written_none, written_push, written_lines}
 use Rattle.protocol.specs.History.{then}
 use Rattle.drafts.specs.Drafts.{Drafted, SealedDraft, StageDraft}
-use Rattle.std.proofs.lemmas.Bool.{lt-leb}
 use Rattle.case.specs.declared.stage.Body.{Body}
 use Rattle.case.specs.declared.stage.Sealed.{Sealed}
 use Rattle.case.specs.View.{front, view_at, view_sealed}
@@ -135,17 +135,12 @@ sealed_adds c d r s t s' t' long same x ad dr q =
     }
 
 -- a sealed draft, at the lines of the case
-pub sealed_draft : (c : Call) (d : Result Line Fault) (b : Body) (t ls : List Line) → length t ≡ 1000 → ls ≡ take b.last t → SealedDraft ls c d → Drafted (view_at model.sealed b t) c d
-sealed_draft c d b t ls long e q =
-    let f : length (take b.last t) ≡ b.last = length-take-le b.last t (omega (arith, b.fits)) in
-    subst (λ (xs : List Line). SealedDraft xs c d) e q b.given (omega (arith, b.fits))
+pub sealed_draft : (c : Call) (d : Result Line Fault) (b : Body) (t ls : List Line) → ls ≡ take b.last t → SealedDraft ls c d → Drafted (view_at model.sealed b t) c d
+sealed_draft c d b t ls e q =
+    subst (λ (xs : List Line). SealedDraft xs c d) e q b.given
 
 -- a draft at a stage whose loop begins at first, at the lines of the case
-pub stage_draft : (c : Call) (d : Result Line Fault) (b : Body) (t ls : List Line) (first : ℕ) (st : model.Stage) → length t ≡ 1000 → ls ≡ take b.last t → ((n : ℕ) → n ≤ b.last → model.in_loop st n ≡ leb first n)
+pub stage_draft : (c : Call) (d : Result Line Fault) (b : Body) (t ls : List Line) (first : Option ℕ) (st : model.Stage) → ls ≡ take b.last t → LoopFrom first st
     → StageDraft first ls c d → Drafted (view_at st b t) c d
-stage_draft c d b t ls first st long e from q =
-    let f : length (take b.last t) ≡ b.last = length-take-le b.last t (omega (arith, b.fits)) in
-    subst (λ (xs : List Line). StageDraft first xs c d) e q st b.given (λ n h. from n (omega arith))
-
-pub sealed_stage : (b : Body) (n : ℕ) → n ≤ b.last → model.in_loop model.sealed n ≡ leb 1001 n
-sealed_stage b n h = sym (lt-leb 1001 n (omega (arith, b.fits)))
+stage_draft c d b t ls first st e from q =
+    subst (λ (xs : List Line). StageDraft first xs c d) e q st b.given from

@@ -18,10 +18,6 @@ use Rattle.case.specs.declared.stage.Sealed.{Sealed}
 use Rattle.case.specs.View.{view_at, view_sealed, view_loop, guards_in, stage_of}
 use Rattle.case.specs.Calling.{Placed, Onward}
 
--- the guards in front
-abbrev pub Copied : List LitSet → List LitSet → Type 0
-Copied gs out = (length out ≡ 8) × (take (length gs) out ≡ gs)
-
 abbrev pub OpenChecked : Body → Literal → List LitSet → Result Unit Fault → Type 0
 OpenChecked b l gs (Ok _) = (l.letter ≤ 19) × (¬ SomeOver gs) × (1 ≤ length gs) × (length gs ≤ 8) × (b.last + length gs ≤ 1000)
 OpenChecked b l gs (Err f) = (t : List Line) → length t ≡ 1000 → First (causes (view_at model.sealed b t) (open_loop l gs)) f

@@ -3,29 +3,18 @@ ghost use Rattle.protocol.specs.Calls.{infer as the_infer, open_loop, close as t
 ghost use Rattle.protocol.specs.Causes.{SomeOver};
 ghost use Rattle.case.specs.View.{view_loop, guards_in};
 ghost use Rattle.case.specs.Calling.{Called, answer_of};
-ghost use Rattle.case.specs.Looping.{Copied, LoopOf, Opened, OpenChecked, Moved, CloseChecked, Closed, Abandoned};
+ghost use Rattle.case.specs.Looping.{LoopOf, Opened, OpenChecked, Moved, CloseChecked, Closed, Abandoned};
 
 use crate::stage::{Body, OpenLoop, Sealed};
 use clause::refusal::{Fault, Refusal};
 use clause::syntax::{LitSet, Literal};
 use drafts::infers::inferred;
-use lines::covers::{some_not_global, some_over, unfit};
+use lines::covers::some_over;
 use lines::line::Line;
-use lines::named::check_named;
+use lines::named::Named;
+use lines::places::first_8;
 use lines::writes::{assume, blank_between, conclude};
 use rules::book::RuleBook;
-
-// The guards, in front of empty sets.
-fn copied(guards: &[LitSet]) -> [LitSet; 8]
-    requires { length guards.now ≤ 8 }
-    ensures { Copied guards.now result }
-{
-    let mut out = [LitSet { plus: 0, minus: 0 }; 8];
-    for (i, g) in guards.iter().enumerate() {
-        out[i] = *g;
-    }
-    out
-}
 
 impl Body {
     // Tests an open but for the table's size.
@@ -72,7 +61,7 @@ impl Sealed {
             body,
             first,
             literal: l,
-            guards: copied(guards),
+            guards: first_8(guards, LitSet::NONE),
             count: guards.len() as u8,
         }
     }
@@ -131,7 +120,7 @@ impl OpenLoop {
             return Err(Fault::of(Refusal::WrongSize));
         }
         let mut body = self.body;
-        let draft = inferred(body.lines(table), self.first, book, cites, evidence);
+        let draft = inferred(body.lines(table), Some(self.first), book, cites, evidence);
         let answer = body.add(table, draft);
         self.advance(body);
         answer
@@ -145,11 +134,15 @@ impl OpenLoop {
         if covers.len() != guards.len() {
             return Err(Fault::of(Refusal::WrongCount));
         }
-        check_named(lines, self.first, covers)?;
-        if some_not_global(lines, covers) {
+        let named = Named {
+            lines,
+            numbers: covers,
+        };
+        named.check(Some(self.first))?;
+        if named.some_not_global() {
             return Err(Fault::of(Refusal::WrongKind));
         }
-        if let Some(place) = unfit(lines, covers, guards) {
+        if let Some(place) = named.unfit(guards) {
             return Err(Fault::at(Refusal::CoverMisfit, 0, place));
         }
         if lines.len() + covers.len() > 1000 {
@@ -163,6 +156,7 @@ impl OpenLoop {
         ensures last { result.body.last ≡ self.body.last + count }
         ensures given { result.body.given ≡ self.body.given }
     {
+        // Each part is named: a loop that is not taken apart whole would be let go.
         let OpenLoop {
             body,
             first: _,

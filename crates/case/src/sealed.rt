@@ -8,7 +8,7 @@ use clause::refusal::{Fault, Refusal};
 use clause::syntax::Literal;
 use drafts::draws::{drawn, drawn_alone};
 use drafts::infers::inferred;
-use drafts::waits::{NO_LOOP, waited, waits};
+use drafts::waits::{waited, waits};
 use lines::line::Line;
 use rules::book::RuleBook;
 
@@ -77,7 +77,7 @@ impl Sealed {
         if table.len() != 1000 {
             return Err(Fault::of(Refusal::WrongSize));
         }
-        let draft = inferred(self.body.lines(table), NO_LOOP, book, cites, evidence);
+        let draft = inferred(self.body.lines(table), None, book, cites, evidence);
         self.body.add(table, draft)
     }
 }

@@ -8,9 +8,8 @@ use crate::stage::Sealed;
 use clause::refusal::{Fault, Refusal};
 use cores::core_of;
 use drafts::kinds::check_refutable;
-use drafts::waits::NO_LOOP;
 use lines::line::Line;
-use lines::named::check_named;
+use lines::named::Named;
 use lines::places::line_at;
 use runs::moments::Moments;
 use runs::reads::asks;
@@ -44,7 +43,12 @@ fn first_broken(lines: &[Line], moments: &Moments) -> Option<(u16, u16)>
 fn check_refute(lines: &[Line], n: u16) -> Result<(), Fault>
     ensures { Refutable lines.now n result }
 {
-    check_named(lines, NO_LOOP, &[n])?;
+    let numbers = [n];
+    Named {
+        lines,
+        numbers: &numbers,
+    }
+    .check(None)?;
     check_refutable(line_at(lines, n).clause)
 }
 
@@ -60,10 +64,8 @@ impl Sealed {
             return Err(Fault::of(Refusal::WrongSize));
         }
         let lines = self.body.lines(table);
-        match check_refute(lines, n) {
-            Err(f) => Err(f),
-            Ok(()) => Ok(core_of(lines, n, self.body.given, row)),
-        }
+        check_refute(lines, n)?;
+        Ok(core_of(lines, n, self.body.given, row))
     }
 
     // Accepts a run that keeps every given line over endless time, and answers its lead-in and its loop.

@@ -1,10 +1,11 @@
 -- The row of marked numbers.
-use Rattle.std.proofs.Common.{◌≡◌, ℕ, zero, suc, ◌+◌, ◌-◌, ◌<◌, ◌≤◌, Bool, false, cond, List, [], ◌∷◌, ◌++◌, length, get_or, take, set, replicate, sym, refl, ap, ◌∙◌, subst, inl, inr, ⊎_elim, add-one, arith}
-use lib.Seq.{paste}
-use Rattle.std.proofs.lemmas.List.{append-nil, drop_all, length-replicate}
-use Rattle.std.proofs.lemmas.List.Edits.{fill_from_more, paste_none, paste_all}
+use Rattle.std.proofs.Common.{◌≡◌, ℕ, zero, suc, ◌+◌, ◌-◌, ◌<◌, ◌≤◌, Bool, false, cond, List, [], ◌∷◌, ◌++◌, length, get_or, take, drop, set, replicate, sym, refl, ap, ◌∙◌, subst, inl, inr, ⊎_elim, add-one, arith}
+use borrow.Rule.Slice.PartMut.{put_mid}
+use Rattle.std.proofs.lemmas.List.{append-nil, drop_all, length-replicate, length-take-le, length-drop, length_push, take_more_set}
+use Rattle.std.proofs.lemmas.List.Edits.{paste_all}
+use Rattle.std.proofs.lemmas.Slice.{put_mid-paste}
 use Rattle.std.proofs.lemmas.Bool.{cases_Bool, cases_eq}
-use Rattle.protocol.specs.Cores.{Rising}
+use Rattle.protocol.specs.Cores.{Rising, padded}
 use Rattle.cores.specs.Marks.{Marked, IsIn, marked_to}
 use Rattle.cores.proofs.Marking.{in_left, in_last, in_push}
 
@@ -46,18 +47,41 @@ to_rising ms (suc n) = ⊎_elim
     (λ b. subst (λ (b : Bool). Rising (marked_to ms n ++ cond b (suc n ∷ []) [])) (sym b) (subst Rising (sym (append-nil (marked_to ms n))) (to_rising ms n)))
     (cases_Bool (get_or ms (suc n) false))
 
--- the zeros
-pub blanks_none : {X : Type 0} (d : List X) (at : ℕ) (y : X) → d ≡ paste d at (replicate (at - at) y) (at - at)
-blanks_none d at y = let e : at - at ≡ 0 = omega arith in rw e (paste_none d at (replicate 0 y))
+-- a row whose first places hold the marked numbers to n
+abbrev pub Holding : List Bool → ℕ → ℕ → List ℕ → Type 0
+Holding ms n count row = (count ≤ n) × (count ≡ length (marked_to ms n)) × (take count row ≡ marked_to ms n)
 
-pub blanks_more : {X : Type 0} (d : List X) (at i : ℕ) (y : X) → at ≤ i → i < length d → set (paste d at (replicate (i - at) y) (i - at)) i y ≡ paste d at (replicate ((i + 1) - at) y) ((i + 1) - at)
-blanks_more d at i y le lt =
-    let e : at + (i - at) ≡ i = omega arith in
-    let s : (i + 1) - at ≡ (i - at) + 1 = omega arith in
-    let f = fill_from_more d at (i - at) y (omega arith) in
-    rw s (ap (λ k. set (paste d at (replicate (i - at) y) (i - at)) k y) (sym e) ∙ f)
+module _ (ms : List Bool) (m count : ℕ) (row : List ℕ) (h : 1 ≤ m) (q : Holding ms (m - 1) count row) where
+  pub holding_more : Marked ms m → count < length row → Holding ms (m + 1 - 1) (count + 1) (set row count m)
+  holding_more p l =
+      let n = m - 1 in
+      let e : m ≡ n + 1 = omega arith in
+      let z : n + 1 ≡ m + 1 - 1 = omega arith in
+      let em = to_marked ms n (subst (Marked ms) e p) in
+      let len = length_push (marked_to ms n) (n + 1) in
+      subst (λ k. Holding ms k (count + 1) (set row count m)) z (
+        omega arith,
+        omega (arith, ap length em),
+        take_more_set row count m l ∙ ap (λ ns. ns ++ (m ∷ [])) q.2 ∙ ap (λ x. marked_to ms n ++ (x ∷ [])) e ∙ sym em,
+      )
 
-pub blanks_all : {X : Type 0} (d : List X) (at i : ℕ) (y : X) → at ≤ length d → i ≡ length d → paste d at (replicate (i - at) y) (i - at) ≡ take at d ++ replicate (length d - at) y
-blanks_all d at i y le e =
-    let n = length-replicate (length d - at) y in
-    rw e (paste_all d at (replicate (length d - at) y) (length d - at) (sym n) ∙ ap (λ t. take at d ++ (replicate (length d - at) y ++ t)) (drop_all _ d (omega arith)) ∙ ap (λ t. take at d ++ t) (append-nil _))
+  pub holding_same : get_or ms m false ≡ false → Holding ms (m + 1 - 1) count row
+  holding_same p =
+      let n = m - 1 in
+      let e : m ≡ n + 1 = omega arith in
+      let z : n + 1 ≡ m + 1 - 1 = omega arith in
+      let em = to_unmarked ms n (subst (λ k. get_or ms k false ≡ false) e p) in
+      subst (λ k. Holding ms k count row) z (omega arith, q.1 ∙ sym (ap length em), q.2 ∙ sym em)
+
+-- zeros in all places after these
+pub row_filled : (row ys ns : List ℕ) (count : ℕ) → length row ≡ 200 → count ≤ 200 → count ≡ length ns → ys ≡ replicate (length (take (length row - count) (drop count row))) 0 → take count row ≡ ns → put_mid count (length row - count) row ys ≡ padded ns
+row_filled row ys ns count l h e w f =
+    let k = length row - count in
+    let m : length (take k (drop count row)) ≡ k = length-take-le k (drop count row) (omega (arith, length-drop count row)) in
+    let z : count + k ≡ length row = omega arith in
+    let d : k ≡ 200 - length ns = omega arith in
+    put_mid-paste count k row ys (replicate k 0) k (w ∙ ap (λ j. replicate j 0) m) refl (sym (length-replicate k 0))
+    ∙ paste_all row count (replicate k 0) k (sym (length-replicate k 0))
+    ∙ ap (λ zs. take count row ++ (replicate k 0 ++ zs)) (drop_all (count + k) row (omega arith))
+    ∙ ap (λ zs. take count row ++ zs) (append-nil (replicate k 0))
+    ∙ ap (λ zs. zs ++ replicate k 0) f ∙ ap (λ j. ns ++ replicate j 0) d

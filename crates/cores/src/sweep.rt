@@ -14,12 +14,10 @@ pub(crate) fn reached(lines: &[Line], n: u16) -> [bool; 1001]
 {
     let mut marks = [false; 1001];
     marks[n as usize] = true;
-    let mut k = n;
-    while k > 0 {
+    for k in (1..=n).rev() {
         if marks[k as usize] {
             mark_below(&mut marks, lines[k as usize - 1].cited_lines(), k);
         }
-        k -= 1;
     }
     marks
 }

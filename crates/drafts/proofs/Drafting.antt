@@ -1,5 +1,5 @@
 -- From the tests of a draft to the causes of its call.
-use Rattle.std.proofs.Common.{◌≡◌, ℕ, ◌≤◌, List, ◌++◌, length, Err, Result, sym, ap, subst}
+use Rattle.std.proofs.Common.{◌≡◌, ℕ, List, ◌++◌, None, Err, Result, sym, refl, ap, subst}
 use Rattle.clause.specs.declared.refusal.Fault.{Fault}
 use Rattle.clause.specs.declared.syntax.Clause.{Clause}
 use Rattle.protocol.specs.State as model
@@ -9,7 +9,6 @@ use Rattle.protocol.proofs.Causing.{none_both, first_after, first_left}
 use Rattle.lines.specs.declared.line.Line.{Line}
 use Rattle.lines.specs.View.{line_of, lines_of}
 use Rattle.lines.specs.Named.{LoopFrom, at_stage}
-use Rattle.lines.proofs.Forcing.{sealed_from}
 use Rattle.drafts.specs.Drafts.{Drafted}
 
 -- a draft that was refused
@@ -32,15 +31,15 @@ pub exit_draft : (s : model.State) (c : Call) (r : Result Line Fault) (f : Fault
 exit_draft s c r f p q = subst (Drafted s c) (sym p.1) (subst (λ (x : Fault). First (checks s c) x) (sym p.2) q)
 
 -- a draft with named lines, and causes Qs about what they are
-module _ (t : List Line) (g : ℕ) (h : length t ≤ 1000) (c : Call) (ns : List ℕ) (Qs : List Cause) (is : checks (at_stage model.sealed g (lines_of t)) c ≡ named (at_stage model.sealed g (lines_of t)) ns ++ Qs) where
+module _ (t : List Line) (g : ℕ) (c : Call) (ns : List ℕ) (Qs : List Cause) (is : checks (at_stage model.sealed g (lines_of t)) c ≡ named (at_stage model.sealed g (lines_of t)) ns ++ Qs) where
   abbrev state : model.State
   state = at_stage model.sealed g (lines_of t)
 
-  pub unnamed : (f : Fault) → ((st : model.Stage) (g : ℕ) → LoopFrom 1001 (length t) st → First (named (at_stage st g (lines_of t)) ns) f) → First (checks state c) f
-  unnamed f q = subst (λ (Ps : List Cause). First Ps f) (sym is) (first_left (named state ns) Qs f (q model.sealed g (sealed_from t h)))
+  pub unnamed : (f : Fault) → ((st : model.Stage) (g : ℕ) → LoopFrom None st → First (named (at_stage st g (lines_of t)) ns) f) → First (checks state c) f
+  unnamed f q = subst (λ (Ps : List Cause). First Ps f) (sym is) (first_left (named state ns) Qs f (q model.sealed g (λ n. refl)))
 
-  pub unsuited : (f : Fault) → ((st : model.Stage) (g : ℕ) → LoopFrom 1001 (length t) st → NoneOf (named (at_stage st g (lines_of t)) ns)) → First Qs f → First (checks state c) f
-  unsuited f n q = subst (λ (Ps : List Cause). First Ps f) (sym is) (first_after (named state ns) Qs f (n model.sealed g (sealed_from t h)) q)
+  pub unsuited : (f : Fault) → ((st : model.Stage) (g : ℕ) → LoopFrom None st → NoneOf (named (at_stage st g (lines_of t)) ns)) → First Qs f → First (checks state c) f
+  unsuited f n q = subst (λ (Ps : List Cause). First Ps f) (sym is) (first_after (named state ns) Qs f (n model.sealed g (λ n. refl)) q)
 
-  pub suited : ((st : model.Stage) (g : ℕ) → LoopFrom 1001 (length t) st → NoneOf (named (at_stage st g (lines_of t)) ns)) → NoneOf Qs → NoneOf (checks state c)
-  suited n q = subst NoneOf (sym is) (none_both (named state ns) Qs (n model.sealed g (sealed_from t h)) q)
+  pub suited : ((st : model.Stage) (g : ℕ) → LoopFrom None st → NoneOf (named (at_stage st g (lines_of t)) ns)) → NoneOf Qs → NoneOf (checks state c)
+  suited n q = subst NoneOf (sym is) (none_both (named state ns) Qs (n model.sealed g (λ n. refl)) q)

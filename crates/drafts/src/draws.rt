@@ -5,11 +5,10 @@ ghost use Rattle.protocol.specs.Answers.{drawn_clause as the_drawn_clause, drawn
 ghost use Rattle.drafts.specs.Drafts.{SealedDraft};
 
 use crate::kinds::{check_drawn, check_never};
-use crate::waits::NO_LOOP;
 use clause::refusal::Fault;
 use clause::syntax::{Clause, LitSet};
 use lines::line::Line;
-use lines::named::check_named;
+use lines::named::Named;
 use lines::places::line_at;
 
 // What a never clause and an eventuality with its literal come to.
@@ -20,7 +19,7 @@ fn drawn_clause(never: Clause, eventuality: Clause) -> Clause
         eventuality
             .now_set()
             .union(LitSet::of(eventuality.literal()).union(never.now_set())),
-        LitSet { plus: 0, minus: 0 },
+        LitSet::NONE,
     )
 }
 
@@ -36,13 +35,18 @@ fn drawn_alone_clause(never: Clause) -> Clause
 pub fn drawn(lines: &[Line], n: u16, m: u16) -> Result<Line, Fault>
     ensures { SealedDraft lines.now (draw n m) result }
 {
-    check_named(lines, NO_LOOP, &[n, m])?;
+    let numbers = [n, m];
+    Named {
+        lines,
+        numbers: &numbers,
+    }
+    .check(None)?;
     let never = line_at(lines, n);
     let eventuality = line_at(lines, m);
     check_drawn(never.clause, eventuality.clause)?;
     Ok(Line::citing(
         drawn_clause(never.clause, eventuality.clause),
-        &[n, m],
+        &numbers,
         false,
     ))
 }
@@ -51,8 +55,13 @@ pub fn drawn(lines: &[Line], n: u16, m: u16) -> Result<Line, Fault>
 pub fn drawn_alone(lines: &[Line], n: u16) -> Result<Line, Fault>
     ensures { SealedDraft lines.now (draw_alone n) result }
 {
-    check_named(lines, NO_LOOP, &[n])?;
+    let numbers = [n];
+    Named {
+        lines,
+        numbers: &numbers,
+    }
+    .check(None)?;
     let never = line_at(lines, n);
     check_never(never.clause)?;
-    Ok(Line::citing(drawn_alone_clause(never.clause), &[n], false))
+    Ok(Line::citing(drawn_alone_clause(never.clause), &numbers, false))
 }

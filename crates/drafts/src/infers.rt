@@ -6,10 +6,10 @@ ghost use Rattle.drafts.specs.Drafts.{StageDraft};
 use clause::refusal::{Fault, Refusal};
 use clause::syntax::{Clause, LitSet};
 use lines::line::Line;
-use lines::named::{check_named, clauses_at, rests_everywhere, some_resting};
+use lines::named::Named;
 use rules::book::{Masks, RuleBook};
 
-// The clause that a book's masks stand for.
+// The clause that a book's masks stand for. The masks are a tuple and the clause another crate's, so no `From` can stand here.
 fn clause_of(masks: Masks) -> Clause
     ensures { result ≡ concluded (conclusion_of masks) }
 {
@@ -31,10 +31,10 @@ fn clause_of(masks: Masks) -> Clause
     }
 }
 
-// The line that an infer adds, where the open loop begins at `first`.
+// The line that an infer adds, where the open loop, if there is one, begins at `first`.
 pub fn inferred<B: RuleBook>(
     lines: &[Line],
-    first: u16,
+    first: Option<u16>,
     book: &B,
     cites: &[u16],
     evidence: B::Evidence,
@@ -44,15 +44,19 @@ pub fn inferred<B: RuleBook>(
     if let Some(refusal) = book.early(evidence, cites.len()) {
         return Err(Fault::of(refusal));
     }
-    check_named(lines, first, cites)?;
-    let clauses = clauses_at(lines, cites);
+    let named = Named {
+        lines,
+        numbers: cites,
+    };
+    named.check(first)?;
+    let clauses = named.clauses();
     match book.consult(&clauses[0..cites.len()], evidence) {
         Err(refusal) => Err(Fault::of(refusal)),
         Ok(masks) => {
-            if rests_everywhere(lines, cites, masks.5) {
+            if named.rests_everywhere(masks.5) {
                 return Err(Fault::of(Refusal::RestingEverywhere));
             }
-            let resting = some_resting(lines, cites);
+            let resting = named.some_resting();
             Ok(Line::citing(clause_of(masks), cites, resting))
         }
     }

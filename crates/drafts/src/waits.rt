@@ -9,11 +9,8 @@ use crate::kinds::check_eventuality;
 use clause::refusal::{Fault, Refusal};
 use clause::syntax::{Clause, LitSet, Literal};
 use lines::line::Line;
-use lines::named::check_named;
+use lines::named::Named;
 use lines::places::line_at;
-
-// The first line of an open loop, where there is none.
-pub const NO_LOOP: u16 = 1001;
 
 // What an eventuality becomes with the letter that waits for its literal.
 fn waited_clause(clause: Clause) -> Clause
@@ -22,7 +19,7 @@ fn waited_clause(clause: Clause) -> Clause
     let l = clause.literal();
     Clause::Global(
         clause.now_set().union(LitSet::of(l).union(l.waits())),
-        LitSet { plus: 0, minus: 0 },
+        LitSet::NONE,
     )
 }
 
@@ -37,10 +34,15 @@ fn waits_clause(l: Literal) -> Clause
 pub fn waited(lines: &[Line], n: u16) -> Result<Line, Fault>
     ensures { SealedDraft lines.now (wait_line n) result }
 {
-    check_named(lines, NO_LOOP, &[n])?;
+    let numbers = [n];
+    Named {
+        lines,
+        numbers: &numbers,
+    }
+    .check(None)?;
     let line = line_at(lines, n);
     check_eventuality(line.clause)?;
-    Ok(Line::citing(waited_clause(line.clause), &[n], false))
+    Ok(Line::citing(waited_clause(line.clause), &numbers, false))
 }
 
 // The line that a wait on a literal adds.

@@ -1,29 +1,44 @@
 -- Places as lines, and numbers copied in front of zeros.
-use Rattle.std.proofs.Common.{◌≡◌, ℕ, zero, suc, ◌+◌, ◌-◌, ◌<◌, ◌≤◌, List, [], ◌∷◌, ◌++◌, length, get_or, take, set, replicate, sym, refl, ap, ◌∙◌, arith}
-use Rattle.std.proofs.lemmas.List.{get_or-map, get_or_past, length-map, length-take-le, take_more, take_all, take-append-le}
+use Rattle.std.proofs.Common.{◌≡◌, ℕ, zero, suc, ◌+◌, ◌-◌, ◌<◌, ◌≤◌, List, [], ◌∷◌, ◌++◌, length, get_or, take, drop, replicate, sym, refl, ap, ◌∙◌, subst, ⊎_elim, arith}
+use Rattle.std.proofs.lemmas.List.{get_or-map, get_or_past, length-map, drop-replicate, take_all, take-append-le}
+use denote.Param.Members.{Mut, Called}
+use Rattle.std.specs.Array.{IsFromFnResult, IsFromFnResultFrom}
 use Rattle.std.specs.List.{AllByRecursion}
+use Rattle.std.proofs.lemmas.Bool.{cases_eq}
 use Rattle.clause.specs.Sets.{Narrow}
 use Rattle.protocol.specs.State as model
 use Rattle.protocol.proofs.Narrow.{under_none}
 use Rattle.lines.specs.declared.line.Line.{Line}
 use Rattle.lines.specs.View.{line_of, lines_of, IsBlank}
 
--- the first zero after some numbers is set
-set_next : (xs : List ℕ) (n x : ℕ) → set (xs ++ replicate (suc n) 0) (length xs) x ≡ (xs ++ (x ∷ [])) ++ replicate n 0
-set_next [] n x = refl
-set_next (y ∷ xs) n x = ap (λ zs. y ∷ zs) (set_next xs n x)
+-- what `array::from_fn` gives, where the calls leave the closure as it was
+module _ {F B : Type 0} (g : Mut F (ℕ × Unit {0}) B) (f : F) (v : ℕ → B) (same : (i : ℕ) (y : B) (q : F) → Called g f (i, tt) y q → (q ≡ f) × (y ≡ v i)) where
+  made_from : (ys : List B) (n a : ℕ) → IsFromFnResultFrom g f ys a n → (i : ℕ) (d : B) → a ≤ i → i < a + n → get_or ys i d ≡ v i
+  made_from ys zero a p i d l h = absurd (omega arith)
+  made_from ys (suc n) a (q, y, is, call, rest) i d l h =
+      let e = same a y q call in
+      ⊎_elim
+      (λ z. subst (λ j. get_or ys j d ≡ v j) (sym z) (is.1 d ∙ e.1))
+      (λ z. made_from ys n (a + 1) (subst (λ p. IsFromFnResultFrom g p ys (a + 1) n) e.0 rest) i d (omega arith) (omega arith))
+      (cases_eq i a)
 
-pub copied_more : (ns out : List ℕ) (i : ℕ) → i < length ns → length ns ≤ 8 → out ≡ take i ns ++ replicate (8 - i) 0 → set out i (get_or ns i 0) ≡ take (i + 1) ns ++ replicate (8 - (i + 1)) 0
-copied_more ns out i h l e =
-    let a : 8 - i ≡ suc (8 - (i + 1)) = omega arith in
-    let b : length (take i ns) ≡ i = length-take-le i ns (omega arith) in
-    ap (λ zs. set zs i (get_or ns i 0)) (e ∙ ap (λ m. take i ns ++ replicate m 0) a)
-    ∙ ap (λ m. set (take i ns ++ replicate (suc (8 - (i + 1))) 0) m (get_or ns i 0)) (sym b)
-    ∙ set_next (take i ns) (8 - (i + 1)) (get_or ns i 0)
-    ∙ ap (λ zs. zs ++ replicate (8 - (i + 1)) 0) (sym (take_more ns i 0 h))
+  pub made_at : (ys : List B) (n : ℕ) → IsFromFnResult g f ys n → (i : ℕ) (d : B) → i < n → get_or ys i d ≡ v i
+  made_at ys n p i d h = made_from ys n 0 p.each i d (omega arith) (omega arith)
 
-pub copied_all : (ns out : List ℕ) (i : ℕ) → i ≡ length ns → out ≡ take i ns ++ replicate (8 - i) 0 → out ≡ ns ++ replicate (8 - length ns) 0
-copied_all ns out i e q = q ∙ ap (λ zs. zs ++ replicate (8 - i) 0) (take_all i ns (omega arith)) ∙ ap (λ m. ns ++ replicate (8 - m) 0) e
+-- the front of a longer list is known by its elements
+pub taken_is : {X : Type 0} (d : X) (n : ℕ) (xs ys : List X) → length ys ≡ n → ((i : ℕ) → i < n → get_or ys i d ≡ get_or xs i d) → length xs ≤ n → take (length xs) ys ≡ xs
+taken_is d n [] ys l e h = refl
+taken_is d n (x ∷ xs) [] l e h = absurd (omega arith)
+taken_is d zero (x ∷ xs) (y ∷ ys) l e h = absurd (omega arith)
+taken_is d (suc n) (x ∷ xs) (y ∷ ys) l e h = ap (λ w. w ∷ take (length xs) ys) (e 0 (omega arith)) ∙ ap (λ w. x ∷ w) (taken_is d n xs ys (omega arith) (λ i k. e (suc i) (omega arith)) (omega arith))
+
+-- items copied in front of fillers
+pub front_padded : {X : Type 0} (d : X) (xs ys : List X) (m : ℕ) → length xs ≤ 8 → m ≡ length xs → ys ≡ take m xs → ys ++ drop (length (take m xs)) (replicate 8 d) ≡ xs ++ replicate (8 - length xs) d
+front_padded d xs ys m h e w =
+    let a : take m xs ≡ xs = take_all m xs (omega arith) in
+    ap (λ zs. zs ++ drop (length (take m xs)) (replicate 8 d)) (w ∙ a)
+    ∙ ap (λ zs. xs ++ drop (length zs) (replicate 8 d)) a
+    ∙ ap (λ zs. xs ++ zs) (drop-replicate (length xs) 8 d)
 
 -- the place at i is line i + 1, and past the last there is a blank one
 pub line_here : (t : List Line) (n i : ℕ) (x : Line) → i ≡ n - 1 → i < length t → x ≡ get_or t i x → line_of x ≡ model.line_at (lines_of t) n
@@ -35,11 +50,11 @@ blank_is x b j = record { clause = b.0 j; cites = take (b.2 j) (b.1 j); resting 
 pub line_past : (t : List Line) (n i : ℕ) (x : Line) → i ≡ n - 1 → length t ≤ i → IsBlank x → line_of x ≡ model.line_at (lines_of t) n
 line_past t n i x ei h b = blank_is x b ∙ sym (get_or_past (lines_of t) (n - 1) model.blank (omega (arith, length-map t line_of)))
 
-pub front_is : (ns out : List ℕ) → length ns ≤ 8 → out ≡ ns ++ replicate (8 - length ns) 0 → take (length ns) out ≡ ns
-front_is ns out h e = ap (take (length ns)) e ∙ take-append-le (length ns) ns _ (omega arith) ∙ take_all (length ns) ns (omega arith)
+pub front_is : {X : Type 0} (d : X) (ns out : List X) → length ns ≤ 8 → out ≡ ns ++ replicate (8 - length ns) d → take (length ns) out ≡ ns
+front_is d ns out h e = ap (take (length ns)) e ∙ take-append-le (length ns) ns _ (omega arith) ∙ take_all (length ns) ns (omega arith)
 
 pub tidy_is : (ns out : List ℕ) → length ns ≤ 8 → out ≡ ns ++ replicate (8 - length ns) 0 → out ≡ take (length ns) out ++ replicate (8 - length ns) 0
-tidy_is ns out h e = e ∙ ap (λ zs. zs ++ replicate (8 - length ns) 0) (sym (front_is ns out h e))
+tidy_is ns out h e = e ∙ ap (λ zs. zs ++ replicate (8 - length ns) 0) (sym (front_is 0 ns out h e))
 
 -- every line of a table is narrow
 narrow_get : (t : List Line) (k : ℕ) → Narrow (get_or (lines_of t) k model.blank).clause

@@ -1,7 +1,10 @@
 -- Places written one after another.
-use Rattle.std.proofs.Common.{◌≡◌, ℕ, zero, suc, ◌+◌, ◌-◌, ◌<◌, ◌≤◌, List, [], ◌∷◌, ◌++◌, map, length, get_or, take, drop, set, replicate, sym, refl, ap, ◌∙◌, subst, arith}
+use Rattle.std.proofs.Common.{◌≡◌, ℕ, ◌+◌, ◌-◌, ◌<◌, ◌≤◌, List, [], ◌∷◌, ◌++◌, map, length, get_or, take, drop, set, replicate, sym, refl, ap, ◌∙◌, subst, arith}
+use borrow.Rule.Slice.PartMut.{put_mid}
 use Rattle.std.specs.List.{AllByRecursion}
-use Rattle.std.proofs.lemmas.List.{append_assoc, length-append, length-map, length_push, length-take-le, map_more, take_all, take-append-drop, take-append-le, drop_more, map-append, length-replicate}
+use Rattle.std.proofs.lemmas.Slice.{put_mid-paste}
+use Rattle.std.proofs.lemmas.List.Edits.{paste_all}
+use Rattle.std.proofs.lemmas.List.{append_assoc, length-append, length-map, length_push, length-take-le, length-drop, map_more, take_all, take-append-drop, take-append-le, drop_more, map-append, length-replicate}
 use Rattle.clause.specs.declared.syntax.LitSet.{LitSet}
 use Rattle.clause.specs.Meaning.{none}
 use Rattle.protocol.specs.State as model
@@ -77,27 +80,11 @@ pub write_end : (f : LitSet → model.Line) (n : ℕ) (t u : List Line) (gs : Li
 write_end f n t u gs i e w = subst (λ (xs : List LitSet). Written n t (map f xs) u) (take_all i gs (omega arith)) w
 
 -- blanking
-push_replicate : {X : Type 0} (n : ℕ) (x : X) → replicate n x ++ (x ∷ []) ≡ replicate (n + 1) x
-push_replicate zero x = refl
-push_replicate (suc n) x = ap (λ zs. x ∷ zs) (push_replicate n x) ∙ ap (λ m. replicate m x) e
-  where
-    e : suc (n + 1) ≡ suc n + 1
-    e = omega arith
-
-abbrev pub BlankedTo : {X : Type 0} → List X → ℕ → X → ℕ → List X → Type 0
-BlankedTo t n x i u = u ≡ take n t ++ (replicate (i - n) x ++ drop i t)
-
-pub blanked_none : {X : Type 0} (t : List X) (n : ℕ) (x : X) → BlankedTo t n x n t
-blanked_none t n x = let z : n - n ≡ 0 = omega arith in sym (take-append-drop n t) ∙ sym (ap (λ m. take n t ++ (replicate m x ++ drop n t)) z)
-
-pub blanked_more : {X : Type 0} (t u : List X) (n : ℕ) (x : X) (i : ℕ) → n ≤ i → i < length t → BlankedTo t n x i u → BlankedTo t n x (i + 1) (set u i x)
-blanked_more t u n x i h k w =
-    let l : length (replicate (i - n) x) ≡ i - n = length-replicate (i - n) x in
-    let e : n + length (replicate (i - n) x) ≡ i = omega arith in
-    let e' : n + (length (replicate (i - n) x) + 1) ≡ i + 1 = omega arith in
-    let m : (i - n) + 1 ≡ (i + 1) - n = omega arith in
-    ap (λ zs. set zs i x) (w ∙ ap (λ j. take n t ++ (replicate (i - n) x ++ drop j t)) (sym e))
-    ∙ ap (λ j. set (take n t ++ (replicate (i - n) x ++ drop (n + length (replicate (i - n) x)) t)) j x) (sym e)
-    ∙ set_mid t [] (replicate (i - n) x) n x x (omega arith)
-    ∙ ap (λ j. take n t ++ ((replicate (i - n) x ++ (x ∷ [])) ++ drop j t)) e'
-    ∙ ap (λ zs. take n t ++ (zs ++ drop (i + 1) t)) (push_replicate (i - n) x ∙ ap (λ j. replicate j x) m)
+pub blanked_is : {X : Type 0} (t ys : List X) (n e a k : ℕ) (x : X) → n ≤ e → e ≤ length t → a ≡ n → k ≡ e - n → ys ≡ replicate (length (take k (drop a t))) x → put_mid a k t ys ≡ take n t ++ (replicate (e - n) x ++ drop e t)
+blanked_is t ys n e a k x h l ea ek w =
+    let m : length (take k (drop a t)) ≡ e - n = length-take-le k (drop a t) (omega (arith, length-drop a t)) ∙ ek in
+    let z : a + k ≡ e = omega arith in
+    put_mid-paste a k t ys (replicate (e - n) x) k (w ∙ ap (λ j. replicate j x) m) refl (ek ∙ sym (length-replicate (e - n) x))
+    ∙ paste_all t a (replicate (e - n) x) k (ek ∙ sym (length-replicate (e - n) x))
+    ∙ ap (λ j. take j t ++ (replicate (e - n) x ++ drop (a + k) t)) ea
+    ∙ ap (λ j. take n t ++ (replicate (e - n) x ++ drop j t)) z

@@ -3,7 +3,7 @@ ghost use Rattle.clause.specs.Sets.{Narrow};
 
 use clause::syntax::Clause;
 
-// A place of the table. The first `cited` numbers of `cites` are the lines that it cites.
+// A place of the table. The first `cited` numbers of `cites` are the lines that it cites: a place is copied within its lent table, so it can own no list.
 #[derive(Clone, Copy)]
 pub struct Line {
     pub clause: Clause,

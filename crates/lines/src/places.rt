@@ -1,4 +1,4 @@
-ghost use Rattle.std.specs.Prelude.{◌≡◌, ℕ, ◌-◌, ◌≤◌, true, false, List, ◌++◌, length, replicate};
+ghost use Rattle.std.specs.Prelude.{◌≡◌, ℕ, ◌-◌, ◌≤◌, List, ◌++◌, length, replicate};
 ghost use Rattle.clause.specs.Sets.{Narrow};
 ghost use Rattle.protocol.specs.State.{line_at};
 ghost use Rattle.lines.specs.View.{line_of, lines_of, Tidy, IsBlank};
@@ -6,16 +6,13 @@ ghost use Rattle.lines.specs.View.{line_of, lines_of, Tidy, IsBlank};
 use crate::line::Line;
 use clause::syntax::{Clause, LitSet};
 
-// The first 8 of the numbers, with zeros after them.
-fn copied(numbers: &[u16]) -> [u16; 8]
-    ensures { length numbers.now ≤ 8 → result ≡ numbers.now ++ replicate (8 - length numbers.now) 0 }
+// The first 8 of the items, with fillers after them.
+pub fn first_8<T: Copy>(items: &[T], filler: T) -> [T; 8]
+    ensures { length items.now ≤ 8 → result ≡ items.now ++ replicate (8 - length items.now) filler }
 {
-    let mut out = [0; 8];
-    for (i, n) in numbers.iter().enumerate() {
-        if i < 8 {
-            out[i] = *n;
-        }
-    }
+    let front = &items[..items.len().min(8)];
+    let mut out = [filler; 8];
+    out[..front.len()].copy_from_slice(front);
     out
 }
 
@@ -25,7 +22,7 @@ impl Line {
         ensures { IsBlank result }
     {
         Line {
-            clause: Clause::Initial(LitSet { plus: 0, minus: 0 }),
+            clause: Clause::Initial(LitSet::NONE),
             cites: [0; 8],
             cited: 0,
             resting: false,
@@ -42,7 +39,7 @@ impl Line {
         }
         Line {
             clause,
-            cites: copied(cites),
+            cites: first_8(cites, 0),
             cited: cites.len() as u8,
             resting,
         }
@@ -52,7 +49,7 @@ impl Line {
     pub fn cited_lines(&self) -> &[u16]
         ensures { result.now ≡ (line_of self.now).cites }
     {
-        &self.cites[0..self.cited as usize]
+        &self.cites[..usize::from(self.cited)]
     }
 }
 
@@ -60,11 +57,7 @@ impl Line {
 pub fn line_at(lines: &[Line], n: u16) -> Line
     ensures { line_of result ≡ line_at (lines_of lines.now) n }
 {
-    let i = n.saturating_sub(1) as usize;
-    if i < lines.len() {
-        let line = lines[i];
-        line
-    } else {
-        Line::blank()
-    }
+    lines
+        .get(usize::from(n.saturating_sub(1)))
+        .map_or_else(Line::blank, |line| *line)
 }

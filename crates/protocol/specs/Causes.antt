@@ -30,9 +30,9 @@ abbrev pub NoneOf : List Cause → Type 0
 NoneOf [] = Unit {0}
 NoneOf (P ∷ Ps) = ((g : Fault) → ¬ P g) × NoneOf Ps
 
-abbrev pub SomeIn : (ℕ → Type 0) → List ℕ → Type 0
+abbrev pub SomeIn : {X : Type 0} → (X → Type 0) → List X → Type 0
 SomeIn P [] = ⊥
-SomeIn P (n ∷ ns) = P n ⊎ SomeIn P ns
+SomeIn P (x ∷ xs) = P x ⊎ SomeIn P xs
 
 -- no line has this number
 abbrev pub Outside : State → ℕ → Type 0
@@ -81,8 +81,7 @@ OverGiven (Never _ _) = Unit {0}
 
 -- some guard holds a letter above 59
 abbrev pub SomeOver : List LitSet → Type 0
-SomeOver [] = ⊥
-SomeOver (g ∷ gs) = Over 59 g ⊎ SomeOver gs
+SomeOver gs = SomeIn (Over 59) gs
 
 -- a clause covers a guard: nothing next, and its literals among the guard's
 abbrev pub Fits : Clause → LitSet → Type 0

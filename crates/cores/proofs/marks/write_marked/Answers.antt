@@ -1,45 +1,28 @@
-use Rattle.std.proofs.Common.{◌≡◌, ◌+◌, ◌-◌, [], ◌∷◌, ◌++◌, length, take, set, replicate, sym, ap, ◌∙◌, arith}
-use Rattle.std.proofs.lemmas.List.{take_more_set, length_push}
+use Rattle.std.proofs.Common.{◌≡◌, ℕ, ◌+◌, ◌-◌, List, set, sym, ap, ◌∙◌, subst, arith, rules, tests}
 use Rattle.cores.specs.Marks.{marked_to}
-use Rattle.protocol.specs.Cores.{padded}
-use Rattle.cores.proofs.Rows.{to_marked, to_unmarked, blanks_none, blanks_more, blanks_all}
+use Rattle.cores.proofs.Rows.{Holding, holding_more, holding_same, row_filled}
 use Rattle.cores.proofs.marks.write_marked.Goals as goal
-
-pub loop-m-preserved-then-marks-m : goal.loop-m-preserved-then-marks-m
-loop-m-preserved-then-marks-m c =
-    let ms = c.args.marks.now in
-    let m = c.loop-m.m in
-    let e = to_marked ms m c.if-marks-m.true in
-    let n = length_push (marked_to ms m) (m + 1) in (
-      omega arith,
-      omega arith,
-      omega (arith, ap length e),
-      take_more_set c.loop-m.row c.loop-m.count (m + 1) (omega arith) ∙ ap (λ ns. ns ++ ((m + 1) ∷ [])) c.loop-m.invariant.3 ∙ sym e,
-    )
+use Rattle.cores.proofs.marks.write_marked.Goals.{then-marks-m, else-marks-m}
 
 pub loop-m-preserved : goal.loop-m-preserved
 loop-m-preserved c =
     let ms = c.args.marks.now in
     let m = c.loop-m.m in
-    let e = to_unmarked ms m c.if-marks-m.false in
-    (omega arith, omega arith, c.loop-m.invariant.2 ∙ sym (ap length e), c.loop-m.invariant.3 ∙ sym e)
-
-pub loop-i-init : goal.loop-i-init
-loop-i-init c = blanks_none _ c.loop-m.count 0
-
-pub loop-i-preserved : goal.loop-i-preserved
-loop-i-preserved c =
-    ap (λ t. set t c.loop-i.i 0) c.loop-i.invariant ∙ blanks_more c.loop-m.row c.loop-m.count c.loop-i.i 0 (omega arith) (omega arith)
+    let k = c.loop-m.count in
+    let row = c.loop-m.row in
+    elim c.if-marks-m.branch [
+      | then-marks-m w ↦ subst (λ j. Holding ms (m + 1 - 1) j c.if-marks-m.row) (sym w.count-is)
+          (subst (λ (r : List ℕ). Holding ms (m + 1 - 1) (k + 1) r) (sym w.row-is) (holding_more ms m k row (omega arith) c.loop-m.invariant w.if-marks-m.true (omega arith)))
+      | else-marks-m w ↦ subst (λ j. Holding ms (m + 1 - 1) j c.if-marks-m.row) (sym w.count-is)
+          (subst (λ (r : List ℕ). Holding ms (m + 1 - 1) k r) (sym w.row-is) (holding_same ms m k row (omega arith) c.loop-m.invariant w.if-marks-m.false))
+    ]
 
 pub returns : goal.returns
 returns c =
-    let e : c.loop-m.m ≡ c.args.given = omega arith in
-    let ns = marked_to c.args.marks.now c.loop-m.m in
-    let g = ap (marked_to c.args.marks.now) e in
-    let n = c.loop-m.invariant.2 in
-    let z : length c.loop-m.row - c.loop-m.count ≡ 200 - length ns = omega arith in
+    let ms = c.args.marks.now in
+    let e : c.loop-m.m - 1 ≡ c.args.given = omega arith in
+    let q : Holding ms c.args.given c.loop-m.count c.loop-m.row = subst (λ n. Holding ms n c.loop-m.count c.loop-m.row) e c.loop-m.invariant in
     record {
-      count = c.loop-m.invariant.2 ∙ ap length g;
-      row = c.loop-i.invariant ∙ blanks_all c.loop-m.row c.loop-m.count c.loop-i.i 0 (omega arith) (omega arith)
-          ∙ ap (λ k. take c.loop-m.count c.loop-m.row ++ replicate k 0) z ∙ ap (λ f. f ++ replicate (200 - length ns) 0) c.loop-m.invariant.3 ∙ ap padded g;
+      count = q.1;
+      row = row_filled c.loop-m.row c.fill.new.self (marked_to ms c.args.given) c.loop-m.count (omega arith) (omega arith) q.1 (c.fill.ensures.after (λ y w. search (rules, tests))) q.2;
     }

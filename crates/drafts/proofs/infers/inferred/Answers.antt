@@ -31,27 +31,27 @@ late_is b cs ks n r e l q =
 pub slice_bounds-consult-end : goal.slice_bounds-consult-end
 slice_bounds-consult-end g c =
     let h = at_most_8 (g.B.RuleBook.meaning c.args.book.now c.args.evidence) (length c.args.cites.now) (sym c.in_default.ensures) in
-    let w = c.clauses_at-clauses.ensures.long in
+    let w = c.clauses-clauses.ensures.long in
     search rules
 
 pub returns-in-Some : goal.returns-in-Some
 returns-in-Some g c st gi from = inl (c.in-Some.refusal, sym c.in-Some.ensures, c.of.ensures)
 
-pub returns-in_err-check_named : goal.returns-in_err-check_named
-returns-in_err-check_named g c st gi from =
+pub returns-in_err-check : goal.returns-in_err-check
+returns-in_err-check g c st gi from =
     let b = g.B.RuleBook.meaning c.args.book.now c.args.evidence in
     let t = c.args.lines.now in let ns = c.args.cites.now in
     let s = at_stage st gi (lines_of t) in
     exit_draft s (infer b ns) _ _ (err_from_is_err_and c.from_residual.result c.from_residual.ensures.1)
-    (first_after (counted b (length ns)) (named s ns ++ consulted (lines_of t) b ns) _ (not_counted b (length ns) (sym c.in_default.ensures)) (first_left (named s ns) (consulted (lines_of t) b ns) _ (c.in_err-check_named.ensures st gi from)))
+    (first_after (counted b (length ns)) (named s ns ++ consulted (lines_of t) b ns) _ (not_counted b (length ns) (sym c.in_default.ensures)) (first_left (named s ns) (consulted (lines_of t) b ns) _ (c.in_err-check.ensures st gi from)))
 
 pub returns-in-Err : goal.returns-in-Err
 returns-in-Err g c st gi from =
     let b = g.B.RuleBook.meaning c.args.book.now c.args.evidence in
     let t = c.args.lines.now in let ns = c.args.cites.now in let ls = lines_of t in
     let early : b.early (length ns) ≡ None = sym c.in_default.ensures in
-    let q = late_is b c.clauses_at-clauses.result (clauses_at ls ns) (length ns) (Err c.in-Err.refusal) (c.clauses_at-clauses.ensures.front (at_most_8 b (length ns) early)) (length-map ns (clause_at ls)) c.in-Err.ensures.answer in
-    first-consulted b (at_stage st gi ls) ns _ (not_counted b (length ns) early) (c.in_ok-check_named.ensures st gi from) (late_refused b ls ns c.in-Err.refusal _ q c.of-in-Err.ensures)
+    let q = late_is b c.clauses-clauses.result (clauses_at ls ns) (length ns) (Err c.in-Err.refusal) (c.clauses-clauses.ensures.front (at_most_8 b (length ns) early)) (length-map ns (clause_at ls)) c.in-Err.ensures.answer in
+    first-consulted b (at_stage st gi ls) ns _ (not_counted b (length ns) early) (c.in_ok-check.ensures st gi from) (late_refused b ls ns c.in-Err.refusal _ q c.of-in-Err.ensures)
 
 pub returns-then-rests_everywhere : goal.returns-then-rests_everywhere
 returns-then-rests_everywhere g c st gi from =
@@ -59,8 +59,8 @@ returns-then-rests_everywhere g c st gi from =
     let t = c.args.lines.now in let ns = c.args.cites.now in let ls = lines_of t in
     let m = c.in-Ok.masks in
     let early : b.early (length ns) ≡ None = sym c.in_default.ensures in
-    let q = late_is b c.clauses_at-clauses.result (clauses_at ls ns) (length ns) (Ok m) (c.clauses_at-clauses.ensures.front (at_most_8 b (length ns) early)) (length-map ns (clause_at ls)) c.in-Ok.ensures.answer in
-    first-consulted b (at_stage st gi ls) ns _ (not_counted b (length ns) early) (c.in_ok-check_named.ensures st gi from)
+    let q = late_is b c.clauses-clauses.result (clauses_at ls ns) (length ns) (Ok m) (c.clauses-clauses.ensures.front (at_most_8 b (length ns) early)) (length-map ns (clause_at ls)) c.in-Ok.ensures.answer in
+    first-consulted b (at_stage st gi ls) ns _ (not_counted b (length ns) early) (c.in_ok-check.ensures st gi from)
     (rest_refused b ls ns (conclusion_of m) (marks_of (length ns) m.5) q _ c.if-rests_everywhere.ensures c.of-then-rests_everywhere.ensures)
 
 pub returns-else-rests_everywhere : goal.returns-else-rests_everywhere
@@ -70,10 +70,10 @@ returns-else-rests_everywhere g c st gi from =
     let m = c.in-Ok.masks in
     let early : b.early (length ns) ≡ None = sym c.in_default.ensures in
     let few = at_most_8 b (length ns) early in
-    let q = late_is b c.clauses_at-clauses.result (clauses_at ls ns) (length ns) (Ok m) (c.clauses_at-clauses.ensures.front few) (length-map ns (clause_at ls)) c.in-Ok.ensures.answer in
+    let q = late_is b c.clauses-clauses.result (clauses_at ls ns) (length ns) (Ok m) (c.clauses-clauses.ensures.front few) (length-map ns (clause_at ls)) c.in-Ok.ensures.answer in
     let narrow : Narrow c.clause_of.result = subst (λ (k : Clause). Narrow k) (sym c.clause_of.ensures) (b.narrow (clauses_at ls ns) (conclusion_of m) (marks_of (length ns) m.5) (narrow_all t ns) q) in (
       none_both (counted b (length ns)) (named (at_stage st gi ls) ns ++ consulted ls b ns) (not_counted b (length ns) early)
-          (none_both (named (at_stage st gi ls) ns) (consulted ls b ns) (c.in_ok-check_named.ensures st gi from) (none_consulted b ls ns (conclusion_of m) (marks_of (length ns) m.5) q c.if-rests_everywhere.ensures)),
+          (none_both (named (at_stage st gi ls) ns) (consulted ls b ns) (c.in_ok-check.ensures st gi from) (none_consulted b ls ns (conclusion_of m) (marks_of (length ns) m.5) q c.if-rests_everywhere.ensures)),
       (
         conclusion_of m,
         marks_of (length ns) m.5,

@@ -7,7 +7,7 @@ use Rattle.protocol.proofs.Narrow.{narrow_waits}
 use Rattle.drafts.proofs.waits.waits.Goals as goal
 
 pub returns : goal.returns
-returns c t g h =
+returns c t g =
     let low : c.args.l.letter ≤ 19 = omega arith in
     let e = c.waits_clause.ensures low in (
       (not_if _ _ (λ q. omega arith), tt),

@@ -1,12 +1,10 @@
-use Rattle.std.proofs.Common.{arith}
-use Rattle.lines.proofs.Guarding.{over_at, none_over_more, none_over_all}
+use Rattle.std.proofs.Common.{rules, tests}
+use Rattle.std.proofs.lemmas.Iterator.{cases_from_any, YieldsList-from_slice}
+use Rattle.clause.specs.Sets.{Over}
+use Rattle.lines.proofs.Citing.{any_tells}
 use Rattle.lines.proofs.covers.some_over.Goals as goal
 
-pub returns-then-over : goal.returns-then-over
-returns-then-over c = over_at c.args.guards.now c.loop-g.g-index c.loop-g-test.true c.if-over.ensures
-
-pub loop-g-preserved : goal.loop-g-preserved
-loop-g-preserved c = none_over_more c.args.guards.now c.loop-g.g-index c.loop-g-test.true c.loop-g.invariant c.if-over.ensures
-
 pub returns : goal.returns
-returns c = none_over_all c.args.guards.now c.loop-g.g-index (omega arith) c.loop-g.invariant
+returns c =
+    let gs = c.args.guards.now in
+    any_tells (Over 59) _ gs (cases_from_any _ _ _ (Over 59) (λ g. ¬ Over 59 g) c.any.ensures.ran (YieldsList-from_slice gs cc) (λ x q k. search (rules, tests)) (λ x q k. search (rules, tests)))

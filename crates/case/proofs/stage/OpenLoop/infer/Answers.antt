@@ -1,4 +1,4 @@
-use Rattle.std.proofs.Common.{◌≡◌, length, refl, arith}
+use Rattle.std.proofs.Common.{◌≡◌, length, Some, refl, arith}
 use Rattle.protocol.specs.Calls.{infer}
 use Rattle.case.specs.View.{view_loop, stage_of}
 use Rattle.case.proofs.Growing.{wrong_size, stage_draft}
@@ -18,4 +18,4 @@ returns g c =
     let k = infer (g.B.RuleBook.meaning c.args.book.now c.args.evidence) c.args.cites.now in
     let long : length t ≡ 1000 = omega arith in
     loop_adds k _ c.add-answer.result o t _ _ _ long c.add-answer.auto.table tt tt
-    (stage_draft k _ o.body t c.lines.result.now o.first (stage_of o) long c.lines.ensures (λ n h. refl) c.inferred-draft.ensures) c.add-answer.ensures.adds c.advance.ensures
+    (stage_draft k _ o.body t c.lines.result.now (Some o.first) (stage_of o) c.lines.ensures (λ n. refl) c.inferred-draft.ensures) c.add-answer.ensures.adds c.advance.ensures

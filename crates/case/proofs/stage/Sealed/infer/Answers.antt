@@ -1,8 +1,8 @@
-use Rattle.std.proofs.Common.{◌≡◌, length, arith}
+use Rattle.std.proofs.Common.{◌≡◌, length, None, refl, arith}
 use Rattle.protocol.specs.Calls.{infer}
 use Rattle.protocol.specs.State.{sealed}
 use Rattle.case.specs.View.{view_sealed}
-use Rattle.case.proofs.Growing.{wrong_size, sealed_adds, stage_draft, sealed_stage}
+use Rattle.case.proofs.Growing.{wrong_size, sealed_adds, stage_draft}
 use Rattle.case.proofs.stage.Sealed.infer.Goals as goal
 
 pub returns-then-table-ne1000 : goal.returns-then-table-ne1000
@@ -15,4 +15,4 @@ returns g c =
     let k = infer (g.B.RuleBook.meaning c.args.book.now c.args.evidence) c.args.cites.now in
     let long : length t ≡ 1000 = omega arith in
     sealed_adds k _ c.add.result s t _ _ long c.add.auto.table tt tt
-    (stage_draft k _ s.body t c.lines.result.now 1001 sealed long c.lines.ensures (sealed_stage s.body) c.inferred-draft.ensures) c.add.ensures.adds
+    (stage_draft k _ s.body t c.lines.result.now None sealed c.lines.ensures (λ n. refl) c.inferred-draft.ensures) c.add.ensures.adds

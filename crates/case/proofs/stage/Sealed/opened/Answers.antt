@@ -1,5 +1,17 @@
-use Rattle.std.proofs.Common.{refl}
+use Rattle.std.proofs.Common.{◌≤◌, ◌≡◌, ◌++◌, ◌-◌, length, replicate, take, refl, ap, ◌∙◌, subst, sym, arith}
+use Rattle.clause.specs.Meaning.{none}
+use Rattle.clause.specs.declared.syntax.LitSet.{LitSet}
+use Rattle.protocol.specs.Causes.{SomeOver}
+use Rattle.lines.proofs.Placing.{front_is}
 use Rattle.case.proofs.stage.Sealed.opened.Goals as goal
 
 pub returns : goal.returns
-returns c = record { first = refl; literal = refl; guards = c.copied.ensures.1; given = c.grown-body.ensures.given; last = c.grown-body.ensures.last }
+returns c =
+    let few : length c.args.guards.now ≤ 8 = c.requires.few in
+    record {
+      first = refl;
+      literal = refl;
+      guards = front_is none c.args.guards.now c.first_8.result few (c.first_8.ensures few);
+      given = c.grown-body.ensures.given;
+      last = c.grown-body.ensures.last;
+    }

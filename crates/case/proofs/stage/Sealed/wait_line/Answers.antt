@@ -11,4 +11,4 @@ pub returns : goal.returns
 returns c =
     let s = c.args.self.now in let t = c.args.table.now in let k = wait_line c.args.n in
     let long : length t ≡ 1000 = omega arith in
-    sealed_adds k _ c.add.result s t _ _ long c.add.auto.table tt tt (sealed_draft k _ s.body t c.lines.result.now long c.lines.ensures c.waited-draft.ensures) c.add.ensures.adds
+    sealed_adds k _ c.add.result s t _ _ long c.add.auto.table tt tt (sealed_draft k _ s.body t c.lines.result.now c.lines.ensures c.waited-draft.ensures) c.add.ensures.adds

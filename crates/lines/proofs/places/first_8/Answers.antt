@@ -1,0 +1,8 @@
+use Rattle.std.proofs.Common.{◌≡◌, length, arith}
+use Rattle.lines.proofs.Placing.{front_padded}
+use Rattle.lines.proofs.places.first_8.Goals as goal
+
+pub returns : goal.returns
+returns g c h =
+    let e : c.min.result ≡ length c.args.items.now = omega arith in
+    front_padded c.args.filler c.args.items.now c.copy_from_slice.new.self c.min.result h e c.copy_from_slice.ensures.after
