@@ -8,3 +8,4 @@ pub mod places;
 pub mod stage;
 pub mod steps;
 pub mod taken;
+pub mod text_lines;
