@@ -1,9 +1,11 @@
 -- The bits of masks.
-use Rattle.std.proofs.Common.{◌≡◌, ℕ, zero, suc, ◌+◌, ◌-◌, ◌/◌, ◌%◌, ◌^◌, ◌<◌, ◌≤◌, min, max, ◌⊎◌, sym, refl, ap, ◌∙◌, inl, inr, ⊎_elim, div-le_self, div-one, arith, pow-add}
+use Rattle.std.proofs.Common.{◌≡◌, ℕ, zero, suc, ◌+◌, ◌-◌, ◌/◌, ◌%◌, ◌^◌, ◌<◌, ◌≤◌, min, max, eqb, nat_lt, ◌⊎◌, sym, refl, ap, ◌∙◌, inl, inr, ⊎_elim, div-le_self, div-one, arith, pow-add}
 use native.Mathlib.Nat.{pow-succ', div-div-eq-div-mul, zero-div}
 use lib.Bits.{bit_and, bit_or, bit_xor, differ, and_step, or_step, xor_step, and_le_l}
 use Rattle.std.proofs.lemmas.Nat.{and_shr, or_shr, xor_shr}
-use Rattle.std.proofs.lemmas.Bool.{cases_lt, cases_eq}
+use Rattle.std.proofs.lemmas.Bool.{cases_lt, cases_eq, lt-ltb, ltb-true, eqb-true}
+use Rattle.std.proofs.Math.Nat.{div-eq_of_lt, div-lt_iff_lt-mul}
+use Rattle.clause.proofs.Telling.{same_tests}
 use Rattle.clause.specs.Bit.{bit, In}
 
 pub bit_lt : (n k : ℕ) → bit n k < 2
@@ -137,6 +139,12 @@ pub shifted_none : (a m : ℕ) → a / 2 ^ (m + 1) ≡ 0 → (k : ℕ) → m < k
 shifted_none a m z k h b =
     let e : m + 1 + (k - (m + 1)) ≡ k = omega arith in
     omega (arith, bit_shift a (m + 1) (k - (m + 1)), ap (λ q. bit q (k - (m + 1))) z, zero_bit (k - (m + 1)), ap (bit a) e)
+
+-- a mask shifted out has no bit that high
+pub gone : (a p : ℕ) → 0 < p → eqb (a / p) 0 ≡ nat_lt a p
+gone a p h = same_tests _ _
+    (λ e. lt-ltb a p (let q = eqb-true (a / p) 0 e in omega (arith, (div-lt_iff_lt-mul {k = p} {x = a} {y = 1} h).0)))
+    (λ e. ap (λ q. eqb q 0) (div-eq_of_lt (ltb-true a p e)))
 
 pub in_below : (n a k : ℕ) → a < 2 ^ n → In k a → k < n
 in_below n a k h b = ⊎_elim (λ l. l) (λ l. absurd (omega (arith, bit_high n a k h l))) (cases_lt k n)

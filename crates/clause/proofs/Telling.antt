@@ -1,7 +1,7 @@
 -- Tests that tell a fact.
-use Rattle.std.proofs.Common.{◌≡◌, ℕ, Bool, true, false, eqb, sym, refl}
+use Rattle.std.proofs.Common.{◌≡◌, ℕ, Bool, true, false, not, ◌&&◌, eqb, sym, refl}
 use mathlib.Core.Bool.{beq}
-use Rattle.std.proofs.lemmas.Bool.{eqb-true, eqb-false, true≢false, false≢true}
+use Rattle.std.proofs.lemmas.Bool.{eqb-true, eqb-false, true≢false, false≢true, both_ways}
 use Rattle.clause.specs.Tests.{Tells}
 
 pub tells : (t : Bool) (P : Type 0) → (t ≡ true → P) → (t ≡ false → ¬ P) → Tells t P
@@ -38,3 +38,12 @@ same_tests true true f g = refl
 same_tests true false f g = sym (f refl)
 same_tests false true f g = g refl
 same_tests false false f g = refl
+
+-- where one of two tests fails, both do not hold
+pub not_first : (p q t : Bool) → t ≡ true → t ≡ not p → t ≡ not (p && q)
+not_first true q t e f = absurd (both_ways t f e)
+not_first false q t e f = e
+
+pub not_second : (p q s t : Bool) → s ≡ false → s ≡ not p → t ≡ not q → t ≡ not (p && q)
+not_second true q s t e f g = g
+not_second false q s t e f g = absurd (both_ways s e f)

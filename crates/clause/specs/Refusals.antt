@@ -71,3 +71,7 @@ fault_at r line detail = record { refusal = r; line = line; field = 0; detail = 
 
 abbrev pub plain : Refusal → Fault
 plain r = fault_at r 0 0
+
+-- the same fault with a line and a field of a text
+abbrev pub placed : ℕ → ℕ → Fault → Fault
+placed line field f = record { refusal = f.refusal; line = line; field = field; detail = f.detail }

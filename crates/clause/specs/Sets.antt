@@ -1,5 +1,5 @@
 -- The parts of a clause, and the letters and literals of a set.
-use Rattle.std.specs.Prelude.{ℕ, ◌^◌, ◌<◌, true, false, ◌⊎◌, bit_and, bit_xor}
+use Rattle.std.specs.Prelude.{ℕ, ◌^◌, ◌<◌, Bool, true, false, not, ◌&&◌, nat_lt, ◌⊎◌, bit_and, bit_or, bit_xor}
 use Rattle.clause.specs.declared.syntax.Literal.{Literal}
 use Rattle.clause.specs.declared.syntax.LitSet.{LitSet}
 use Rattle.clause.specs.declared.syntax.Clause.{Clause}
@@ -18,6 +18,14 @@ UntrueIn w s = (k : ℕ) → (In k s.plus → In k w → ⊥) × (In k s.minus �
 -- s holds a letter above n
 abbrev pub Over : ℕ → LitSet → Type 0
 Over n s = (k : ℕ) × (n < k) × (In k s.plus ⊎ In k s.minus)
+
+-- the letters of s, whatever their sign
+abbrev pub letters_of : LitSet → ℕ
+letters_of s = bit_or s.plus s.minus
+
+-- s holds the letter n or one above it, as its masks tell
+abbrev pub reaches : ℕ → LitSet → Bool
+reaches n s = not (nat_lt s.plus (2 ^ n) && nat_lt s.minus (2 ^ n))
 
 -- a without what is in b
 infixl 65 ◌∖◌

@@ -1,5 +1,5 @@
 ghost use Rattle.std.specs.Prelude.{◌≡◌};
-ghost use Rattle.clause.specs.Refusals.{number_of, layer_of, layer_number, plain, fault_at};
+ghost use Rattle.clause.specs.Refusals.{number_of, layer_of, layer_number, plain, fault_at, placed};
 
 use crate::refusal::{Fault, Layer, Refusal};
 
@@ -7,13 +7,7 @@ impl Layer {
     pub fn number(self) -> u8
         ensures { result ≡ layer_number self }
     {
-        match self {
-            Layer::Text => 1,
-            Layer::Clauses => 2,
-            Layer::Book => 3,
-            Layer::Run => 4,
-            Layer::Case => 5,
-        }
+        self as u8
     }
 }
 
@@ -21,31 +15,7 @@ impl Refusal {
     pub fn number(self) -> u8
         ensures { result ≡ number_of self }
     {
-        match self {
-            Refusal::WrongSize => 1,
-            Refusal::TextTooLong => 2,
-            Refusal::TextEmpty => 3,
-            Refusal::UnknownKey => 4,
-            Refusal::FieldCount => 5,
-            Refusal::FieldForm => 6,
-            Refusal::WrongState => 7,
-            Refusal::LetterRange => 8,
-            Refusal::WrongCount => 9,
-            Refusal::NoSuchLine => 10,
-            Refusal::NotInForce => 11,
-            Refusal::WrongKind => 12,
-            Refusal::InitialMeetsNext => 13,
-            Refusal::LacksLiteral => 14,
-            Refusal::TooManyAtoms => 15,
-            Refusal::Counterexample => 16,
-            Refusal::RestingEverywhere => 17,
-            Refusal::CoverMisfit => 18,
-            Refusal::LiteralsDiffer => 19,
-            Refusal::NoRoom => 20,
-            Refusal::NotEmpty => 21,
-            Refusal::OutOfRange => 22,
-            Refusal::RunBreaks => 23,
-        }
+        self as u8
     }
 
     pub fn layer(self) -> Layer
@@ -74,12 +44,7 @@ impl Fault {
     pub fn of(refusal: Refusal) -> Fault
         ensures { result ≡ plain refusal }
     {
-        Fault {
-            refusal,
-            line: 0,
-            field: 0,
-            detail: 0,
-        }
+        Fault::at(refusal, 0, 0)
     }
 
     pub fn at(refusal: Refusal, line: u16, detail: u16) -> Fault
@@ -90,6 +55,17 @@ impl Fault {
             line,
             field: 0,
             detail,
+        }
+    }
+
+    // The fault with a line and a field of a text.
+    pub fn placed(self, at: u16, field: u16) -> Fault
+        ensures { result ≡ placed at field self }
+    {
+        Fault {
+            line: at,
+            field,
+            ..self
         }
     }
 

@@ -1,8 +1,8 @@
-// Every cause of a refusal, in checking order. `specs/Refusals.antt` gives each its number and its layer.
+// Every cause of a refusal, numbered in checking order. `specs/Refusals.antt` gives each its number and its layer.
 #[derive(Clone, Copy, PartialEq, Eq)]
 pub enum Refusal {
     // the table is not 1,000 records, or a lent row not of its length
-    WrongSize,
+    WrongSize = 1,
     // a text exceeds 65,536 bytes
     TextTooLong,
     // a text has no bytes
@@ -49,10 +49,10 @@ pub enum Refusal {
     RunBreaks,
 }
 
-// Where a refusal arises.
+// Where a refusal arises, numbered as it is told.
 #[derive(Clone, Copy, PartialEq, Eq)]
 pub enum Layer {
-    Text,
+    Text = 1,
     Clauses,
     Book,
     Run,

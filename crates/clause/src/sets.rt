@@ -1,8 +1,8 @@
-ghost use Rattle.std.specs.Prelude.{◌≡◌, ℕ, ◌^◌, ◌<◌, ◌≤◌, ◌==◌};
+ghost use Rattle.std.specs.Prelude.{◌≡◌, ℕ, ◌+◌, ◌^◌, ◌<◌, ◌≤◌, ◌==◌, not, nat_lt, Some, None};
 ghost use Rattle.clause.specs.Bit.{bit, In};
 ghost use Rattle.clause.specs.Tests.{Tells};
-ghost use Rattle.clause.specs.Meaning.{none, just, ◌∪◌, Within};
-ghost use Rattle.clause.specs.Sets.{Holds, Over, UntrueIn, ◌∖◌, waits_set, waits_not_set, now_of, next_of, literal_of, Narrow};
+ghost use Rattle.clause.specs.Meaning.{none, just, ◌∪◌, Within, waiting};
+ghost use Rattle.clause.specs.Sets.{Holds, Over, UntrueIn, ◌∖◌, letters_of, reaches, waits_set, waits_not_set, now_of, next_of, literal_of, Narrow};
 
 use crate::syntax::{Clause, LitSet, Literal};
 
@@ -24,7 +24,8 @@ pub fn bit_at(mask: u64, k: u8) -> bool
 
 // Has the mask a letter above n?
 fn above(mask: u64, n: u8) -> bool
-    ensures { Tells result ((k : ℕ) × (n < k) × In k mask) }
+    ensures tells { Tells result ((k : ℕ) × (n < k) × In k mask) }
+    ensures masks { n < 63 → result ≡ not (nat_lt mask (2 ^ (n + 1))) }
 {
     n < 63 && mask >> (n + 1) != 0
 }
@@ -49,17 +50,12 @@ impl Literal {
     }
 
     // The letter that waits for a plain literal; of another there is none.
-    fn waiting(self) -> u8
-        ensures plain { self.letter ≤ 19 → (result ≡ Rattle.clause.specs.Meaning.waiting self) × (result < 64) }
-        ensures other { 19 < self.letter → result ≡ 64 }
+    fn waiting(self) -> Option<u8>
+        ensures plain { self.letter ≤ 19 → result ≡ Some (waiting self) }
+        ensures other { 19 < self.letter → result ≡ None }
     {
-        if self.letter > 19 {
-            64
-        } else if self.positive {
-            20 + self.letter
-        } else {
-            40 + self.letter
-        }
+        let first = if self.positive { 20 } else { 40 };
+        self.is_plain().then(|| first + self.letter)
     }
 
     // That the literal is waited for, as a set; empty where the literal is not plain.
@@ -68,7 +64,7 @@ impl Literal {
         ensures other { 19 < self.letter → result ≡ none }
     {
         LitSet {
-            plus: mask(self.waiting()),
+            plus: self.waiting().map_or(0, mask),
             minus: 0,
         }
     }
@@ -80,7 +76,7 @@ impl Literal {
     {
         LitSet {
             plus: 0,
-            minus: mask(self.waiting()),
+            minus: self.waiting().map_or(0, mask),
         }
     }
 }
@@ -149,9 +145,17 @@ impl LitSet {
         disjoint(self.plus, world) && part_of(self.minus, world)
     }
 
+    // The letters of the set, whatever their sign.
+    pub fn letters(self) -> u64
+        ensures { result ≡ letters_of self }
+    {
+        self.plus | self.minus
+    }
+
     // Does the set hold a letter above n?
     pub fn over(self, n: u8) -> bool
-        ensures { Tells result (Over n self) }
+        ensures tells { Tells result (Over n self) }
+        ensures masks { n < 63 → result ≡ reaches (n + 1) self }
     {
         above(self.plus, n) || above(self.minus, n)
     }
@@ -165,7 +169,7 @@ impl Clause {
             Clause::Initial(n) => n,
             Clause::Global(n, _) => n,
             Clause::Eventuality(n, _) => n,
-            Clause::Assumption(_) => LitSet { plus: 0, minus: 0 },
+            Clause::Assumption(_) => LitSet::NONE,
             Clause::Never(n, _) => n,
         }
     }
@@ -176,7 +180,7 @@ impl Clause {
         match self {
             Clause::Global(_, x) => x,
             Clause::Assumption(x) => x,
-            _ => LitSet { plus: 0, minus: 0 },
+            _ => LitSet::NONE,
         }
     }
 
@@ -184,10 +188,7 @@ impl Clause {
     pub fn is_narrow(self) -> bool
         ensures { Tells result (Narrow self) }
     {
-        if self.now_set().over(59) || self.next_set().over(59) {
-            return false;
-        }
-        self.literal().is_plain()
+        !self.now_set().over(59) && !self.next_set().over(59) && self.literal().is_plain()
     }
 
     // The literal of an eventuality or a never clause; +0 of another.
