@@ -26,7 +26,7 @@ IsIf (Some f) c = Is f c
 IsIf None c = Unit {0}
 
 filled : (x : LitSet) → is_empty x ≡ false → ¬ (x ≡ none)
-filled x e z = let w : true ≡ false = sym (ap is_empty z) ∙ e in let o : ◌≡◌ {A = ℕ} 0 1 = cc in omega arith
+filled x e z = let w : true ≡ false = sym (ap is_empty z) ∙ e in cc
 
 shape : (c : Clause) → IsIf (form_of c) c
 shape (Initial _) = tt
@@ -61,9 +61,6 @@ formed_forms k x y None (Some g) p q = tt
 formed_forms k x y None None p q = tt
 
 -- what has a form is given
-empty_none : (x : LitSet) → x ≡ none → is_empty x ≡ true
-empty_none x e = ap is_empty e
-
 filled_false : (x : LitSet) → ¬ (x ≡ none) → is_empty x ≡ false
 filled_false x n = ⊎_elim (λ e. absurd (n (empty_is x e))) (λ e. e) (cases_Bool (is_empty x))
 
@@ -76,9 +73,9 @@ form_first (Never _ _) p = absurd p
 
 form_now : (c : Clause) → IsNowOnly c → form_of c ≡ Some NowOnly
 form_now (Initial _) p = absurd p.0
-form_now (Global n x) p = ap (λ b. Some (cond b NowOnly WithNext)) (empty_none x p.1)
+form_now (Global n x) p = ap (λ b. Some (cond b NowOnly WithNext)) (ap is_empty p.1)
 form_now (Eventuality _ _) p = absurd p.0
-form_now (Assumption x) p = ap (λ b. Some (cond b NowOnly WithNext)) (empty_none x p.1)
+form_now (Assumption x) p = ap (λ b. Some (cond b NowOnly WithNext)) (ap is_empty p.1)
 form_now (Never _ _) p = absurd p.0
 
 form_next : (c : Clause) → IsWithNext c → form_of c ≡ Some WithNext
@@ -102,7 +99,7 @@ given k x y _ _ (next_now p q h) = settles k x y WithNext NowOnly (form_next x p
 given k x y _ _ (now_next p q h) = settles k x y NowOnly WithNext (form_now x p) (form_next y q) h
 
 refused : (f : _) (c : Conclusion) (ms : List Mark) → refuses f ≡ gives c ms → ⊥
-refused f c ms e = let z : ◌≡◌ {A = ℕ} 0 1 = cc in omega arith
+refused f c ms e = cc
 
 pub accepts : (k : ℕ) (cs : List Clause) → Accepts k cs (late_of k cs)
 accepts k [] c ms = (refused _ c ms, λ p. absurd p)

@@ -1,21 +1,21 @@
 -- A trial accepts just what follows, and refuses as refuted just what has a counterexample.
-use Rattle.std.proofs.Common.{◌≡◌, ℕ, zero, suc, ◌<◌, ◌≤◌, Bool, true, false, cond, not, ◌&&◌, ltb, leb, List, [], ◌∷◌, length, replicate, sym, refl, ap, ◌∙◌, subst, ⊎_elim, arith}
+use Rattle.std.proofs.Common.{◌≡◌, ℕ, zero, suc, ◌<◌, ◌≤◌, Bool, true, false, cond, not, ◌&&◌, ltb, leb, List, [], ◌∷◌, length, replicate, sym, refl, ap, ◌∙◌, subst, ⊎_elim}
 use Rattle.std.specs.List.{AllByRecursion}
 use Rattle.std.proofs.lemmas.Bool.{cond_both, cond-true, cond-false, and_parts, and_from, or_parts, or_from, not-true, not_from_false, ltb-false, le-ltb, lt-ltb, leb-true, le-leb, cases_Bool}
 use Rattle.clause.specs.declared.syntax.LitSet.{LitSet}
 use Rattle.clause.specs.declared.syntax.Clause.{Clause}
 use Rattle.clause.specs.declared.syntax.Clause.TheVariants.{Initial, Global, Eventuality, Assumption, Never}
 use Rattle.clause.specs.declared.refusal.Refusal.TheVariants.{TooManyAtoms, Counterexample}
-use Rattle.clause.specs.Sets.{Over}
+use Rattle.clause.specs.Sets.{Over, reaches}
 use Rattle.rules.specs.declared.trial.Claim.{Claim}
 use Rattle.rules.specs.Kinds.{Ever}
 use Rattle.rules.specs.Books.{here, globally, Outcome, refuses, gives, marks_of}
 use Rattle.rules.specs.Trying.{claimed, Follows, Refuted, atoms, Ready, Judged}
-use Rattle.rules.specs.Deciding.{now_atoms, next_atoms, countered, is_ever, all_ever, wide, wide_claim, suited, late_trial, Sub, counter_at}
+use Rattle.rules.specs.Deciding.{now_atoms, next_atoms, countered, is_ever, all_ever, wide_claim, suited, late_trial, Sub, counter_at}
 use Rattle.rules.specs.TryingSound.{masks_from, countered_for, wide_over, wide_not, all_from, follows_from, countered_from}
 
-slim_to : (s : LitSet) → (¬ Over 59 s) → wide s ≡ false
-slim_to s n = ⊎_elim (λ t. absurd (n (wide_over s t))) (λ t. t) (cases_Bool (wide s))
+slim_to : (s : LitSet) → (¬ Over 59 s) → reaches 60 s ≡ false
+slim_to s n = ⊎_elim (λ t. absurd (n (wide_over s t))) (λ t. t) (cases_Bool (reaches 60 s))
 
 ever_to : (c : Clause) → Ever c → is_ever c ≡ true
 ever_to (Initial _) p = absurd p
@@ -30,14 +30,14 @@ all_to (c ∷ cs) p = and_from (is_ever c) (all_ever cs) (ever_to c p.0) (all_to
 
 suited_to : (e : Claim) (cs : List Clause) → Ready e cs → suited e cs ≡ true
 suited_to e cs r = and_from (not (wide_claim e)) (leb (length cs) 4 && all_ever cs)
-    (not_from_false _ (or_from (wide e.now) (wide e.next) (slim_to e.now r.slim_now) (slim_to e.next r.slim_next)))
+    (not_from_false _ (or_from (reaches 60 e.now) (reaches 60 e.next) (slim_to e.now r.slim_now) (slim_to e.next r.slim_next)))
     (and_from _ _ (le-leb (length cs) 4 r.few_lines) (all_to cs r.kinds))
 
 ready_from : (e : Claim) (cs : List Clause) → suited e cs ≡ true → ltb 10 (atoms e cs) ≡ false → Ready e cs
 ready_from e cs s t =
     let q = and_parts (not (wide_claim e)) (leb (length cs) 4 && all_ever cs) s in
     let k = and_parts (leb (length cs) 4) (all_ever cs) q.1 in
-    let w = or_parts (wide e.now) (wide e.next) (not-true _ q.0) in
+    let w = or_parts (reaches 60 e.now) (reaches 60 e.next) (not-true _ q.0) in
     record {
       slim_now = wide_not e.now w.0;
       slim_next = wide_not e.next w.1;
@@ -53,11 +53,11 @@ Means e cs (gives c ms) = Ready e cs × Follows cs (claimed e)
 
 means : (e : Claim) (cs : List Clause) → Means e cs (late_trial e cs)
 means e cs = cond_both (suited e cs) _ _ (Means e cs)
-    (λ s. cond_both (ltb 10 (atoms e cs)) _ _ (Means e cs) (λ _ q. let z : ◌≡◌ {A = ℕ} 0 1 = cc in absurd (omega arith))
+    (λ s. cond_both (ltb 10 (atoms e cs)) _ _ (Means e cs) (λ _ q. cc)
     (λ t. cond_both (countered (now_atoms e cs) (next_atoms e cs) (claimed e) cs) _ _ (Means e cs)
     (λ f _. (ready_from e cs s t, countered_from (now_atoms e cs) (next_atoms e cs) (claimed e) cs f))
     (λ f. (ready_from e cs s t, follows_from e cs f))))
-    (λ _ q. let z : ◌≡◌ {A = ℕ} 0 1 = cc in absurd (omega arith))
+    (λ _ q. cc)
 
 tried : (e : Claim) (cs : List Clause) → Ready e cs → (b : Bool) → countered (now_atoms e cs) (next_atoms e cs) (claimed e) cs ≡ b
     → late_trial e cs ≡ cond b (refuses Counterexample) (gives (globally e.now e.next) (replicate (length cs) here))

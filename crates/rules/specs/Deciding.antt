@@ -1,32 +1,27 @@
 -- How a trial is decided: choices as masks of the letters of which they say yes.
-use Rattle.std.specs.Prelude.{◌≡◌, ℕ, zero, suc, ◌^◌, ◌<◌, ◌≤◌, Bool, true, false, cond, not, ◌&&◌, ◌||◌, List, [], ◌∷◌, length, replicate, Some, None, Option, ◌==◌, bit_and, bit_or, nat_le, nat_lt}
+use Rattle.std.specs.Prelude.{◌≡◌, ℕ, zero, suc, ◌+◌, ◌<◌, ◌≤◌, Bool, true, false, cond, not, ◌&&◌, ◌||◌, List, length, replicate, Some, None, Option, ◌==◌, bit_and, bit_or, nat_le, nat_lt, fold}
+use Rattle.std.specs.List.{list_any, list_all}
 use Rattle.clause.specs.declared.syntax.LitSet.{LitSet}
 use Rattle.clause.specs.declared.syntax.Clause.{Clause}
 use Rattle.clause.specs.declared.syntax.Clause.TheVariants.{Initial, Global, Eventuality, Assumption, Never}
 use Rattle.clause.specs.declared.refusal.Refusal.{Refusal}
 use Rattle.clause.specs.declared.refusal.Refusal.TheVariants.{LetterRange, WrongCount, WrongKind, TooManyAtoms, Counterexample}
-use Rattle.clause.specs.Sets.{now_of, next_of}
+use Rattle.clause.specs.Sets.{letters_of, reaches, now_of, next_of}
 use Rattle.rules.specs.declared.trial.Claim.{Claim}
+use Rattle.rules.specs.declared.trial.Choices.{Choices}
 use Rattle.rules.specs.Books.{here, globally, Outcome, refuses, gives}
 use Rattle.rules.specs.Trying.{claimed, atoms}
 
+-- the letters of m, and those of a part of each line
+abbrev pub letters_with : (Clause → LitSet) → ℕ → List Clause → ℕ
+letters_with part m cs = fold (λ n c. bit_or n (letters_of (part c))) m cs
+
 -- the atoms of now, and those of next, as masks
-abbrev pub letters_of : LitSet → ℕ
-letters_of s = bit_or s.plus s.minus
-
-abbrev pub now_letters : ℕ → List Clause → ℕ
-now_letters m [] = m
-now_letters m (c ∷ cs) = now_letters (bit_or m (letters_of (now_of c))) cs
-
-abbrev pub next_letters : ℕ → List Clause → ℕ
-next_letters m [] = m
-next_letters m (c ∷ cs) = next_letters (bit_or m (letters_of (next_of c))) cs
-
 abbrev pub now_atoms : Claim → List Clause → ℕ
-now_atoms e cs = now_letters (letters_of e.now) cs
+now_atoms e cs = letters_with now_of (letters_of e.now) cs
 
 abbrev pub next_atoms : Claim → List Clause → ℕ
-next_atoms e cs = next_letters (letters_of e.next) cs
+next_atoms e cs = letters_with next_of (letters_of e.next) cs
 
 -- a choice x makes each literal of a set untrue, and the choice (x, y) each of a line
 abbrev pub untrue_at : ℕ → LitSet → Bool
@@ -36,8 +31,7 @@ abbrev pub broken_at : ℕ → ℕ → Clause → Bool
 broken_at x y c = untrue_at x (now_of c) && untrue_at y (next_of c)
 
 abbrev pub one_broken_at : ℕ → ℕ → List Clause → Bool
-one_broken_at x y [] = false
-one_broken_at x y (c ∷ cs) = broken_at x y c || one_broken_at x y cs
+one_broken_at x y cs = list_any (broken_at x y) cs
 
 abbrev pub counter_at : ℕ → ℕ → Clause → List Clause → Bool
 counter_at x y c cs = broken_at x y c && not (one_broken_at x y cs)
@@ -50,6 +44,20 @@ Sub x a = bit_and x a ≡ x
 abbrev pub NextSub : ℕ → ℕ → Option ℕ → Type 0
 NextSub x a None = x ≡ 0
 NextSub x a (Some z) = (z < x) × Sub z a × (Sub x a → (s : ℕ) → Sub s a → s < x → s ≤ z)
+
+-- every choice of letters of a is to come
+abbrev pub all_choices : ℕ → Choices
+all_choices a = record { letters = a; next = Some a }
+
+-- the choice to come is given, and what follows it comes next
+abbrev pub GivesChoice : Choices → Option ℕ → Choices → Type 0
+GivesChoice s None t = (s.next ≡ None) × (t.next ≡ None)
+GivesChoice s (Some x) t = (s.next ≡ Some x) × (t.letters ≡ s.letters) × NextSub x s.letters t.next
+
+-- at most how many choices are left, where this one is to come
+abbrev pub choices_left : Option ℕ → ℕ
+choices_left None = 0
+choices_left (Some x) = x + 1
 
 -- does p hold of a number from 0 to n?
 unfoldable pub some_to : ℕ → (ℕ → Bool) → Bool
@@ -68,15 +76,11 @@ is_ever (Assumption _) = true
 is_ever (Never _ _) = false
 
 abbrev pub all_ever : List Clause → Bool
-all_ever [] = true
-all_ever (c ∷ cs) = is_ever c && all_ever cs
+all_ever cs = list_all is_ever cs
 
--- has a set a letter above 59?
-abbrev pub wide : LitSet → Bool
-wide s = not (nat_lt s.plus (2 ^ 60) && nat_lt s.minus (2 ^ 60))
-
+-- has a claim a letter above 59?
 abbrev pub wide_claim : Claim → Bool
-wide_claim e = wide e.now || wide e.next
+wide_claim e = reaches 60 e.now || reaches 60 e.next
 
 abbrev pub early_trial : Claim → ℕ → Option Refusal
 early_trial e n = cond (wide_claim e) (Some LetterRange) (cond (n == 0 || nat_lt 4 n) (Some WrongCount) None)

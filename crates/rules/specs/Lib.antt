@@ -5,5 +5,4 @@ pub mod Resolving
 pub mod ResolvingSound
 pub mod Trying
 pub mod Deciding
-pub mod Halves
 pub mod TryingSound

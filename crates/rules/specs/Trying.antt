@@ -1,6 +1,6 @@
 -- Trial: a claim is a line where every choice that breaks it breaks a cited line.
 use Rattle.std.specs.Prelude.{◌≡◌, ℕ, zero, suc, ◌+◌, ◌≤◌, Bool, true, false, cond, ◌||◌, ◌⊎◌, List, [], ◌∷◌, length, replicate, ◌==◌}
-use Rattle.std.specs.List.{AllByRecursion}
+use Rattle.std.specs.List.{AllByRecursion, list_any}
 use Rattle.clause.specs.declared.syntax.LitSet.{LitSet}
 use Rattle.clause.specs.declared.syntax.Clause.{Clause}
 use Rattle.clause.specs.declared.syntax.Clause.TheVariants.{Global}
@@ -39,12 +39,10 @@ abbrev pub occurs : ℕ → LitSet → Bool
 occurs k s = bit s.plus k == 1 || bit s.minus k == 1
 
 abbrev pub occurs_now : ℕ → List Clause → Bool
-occurs_now k [] = false
-occurs_now k (c ∷ cs) = occurs k (now_of c) || occurs_now k cs
+occurs_now k cs = list_any (λ c. occurs k (now_of c)) cs
 
 abbrev pub occurs_next : ℕ → List Clause → Bool
-occurs_next k [] = false
-occurs_next k (c ∷ cs) = occurs k (next_of c) || occurs_next k cs
+occurs_next k cs = list_any (λ c. occurs k (next_of c)) cs
 
 -- of how many of the numbers below n does p hold?
 unfoldable pub how_many : ℕ → (ℕ → Bool) → ℕ

@@ -4,8 +4,9 @@ use Rattle.std.proofs.Common.{sym, ap, subst, ◌∙◌, inl, inr, ⊎_elim, ari
 use Rattle.std.proofs.Math.Nat.{pow-succ'}
 use Rattle.std.specs.Int.Bits.{bit_and}
 use Rattle.std.proofs.lemmas.Nat.{and_le_l, and_le_r}
+use Rattle.std.proofs.lemmas.List.{length-replicate}
 use Rattle.std.specs.List.{AllByRecursion}
-use Rattle.std.proofs.lemmas.Bool.{cond_both, cond-true, and_parts, and_from, and_cases, or_cases, or_left, or_right, or_parts, not-true, not-false, not_from_false, eqb-true, eqb-false, eq-eqb, ltb-true, ltb-false, lt-ltb, cases_Bool, cases_lt, cases_eq, false≢true, both_ways}
+use Rattle.std.proofs.lemmas.Bool.{cond_both, cond-true, and_parts, and_from, and_cases, or_cases, or_left, or_right, or_parts, not-true, not-false, not_from_false, eqb-true, eqb-false, eq-eqb, ltb-true, ltb-false, lt-ltb, cases_Bool, cases_lt, cases_eq, both_ways}
 use Rattle.clause.specs.declared.syntax.LitSet.{LitSet}
 use Rattle.clause.specs.declared.syntax.Clause.{Clause}
 use Rattle.clause.specs.declared.syntax.Clause.TheVariants.{Initial, Global, Eventuality, Assumption, Never}
@@ -14,7 +15,7 @@ use Rattle.clause.specs.declared.refusal.Refusal.TheVariants.{LetterRange, Wrong
 use Rattle.clause.specs.Bit.{bit, In}
 use Rattle.clause.specs.Tests.{Tells}
 use Rattle.clause.specs.Meaning.{Run, LetterTrue, Untrue, Broken, Unbroken}
-use Rattle.clause.specs.Sets.{Over, now_of, next_of}
+use Rattle.clause.specs.Sets.{Over, letters_of, reaches, now_of, next_of}
 use Rattle.clause.proofs.Telling.{tells, tells_eqb}
 use Rattle.clause.proofs.Masks.{bit-bit_and, bit_lt, bit_zero, bit_suc, zero_bit, bits_same, within_from, within_to, in_left, in_right, in_below, shifted_some}
 use Rattle.rules.specs.declared.trial.Claim.{Claim}
@@ -22,7 +23,7 @@ use Rattle.rules.specs.Kinds.{Ever}
 use Rattle.rules.specs.Books.{Consult, here, Used}
 use Rattle.rules.specs.BookLaws.{Right, right_sound, Early}
 use Rattle.rules.specs.Trying.{claimed, Choice, Fails, Breaks, BreaksOne, Follows, Refuted, atoms}
-use Rattle.rules.specs.Deciding.{letters_of, now_letters, next_letters, now_atoms, next_atoms, untrue_at, broken_at, one_broken_at, counter_at, Sub, some_to, countered, is_ever, all_ever, wide, wide_claim, early_trial, suited, late_trial}
+use Rattle.rules.specs.Deciding.{letters_with, now_atoms, next_atoms, untrue_at, broken_at, one_broken_at, counter_at, Sub, some_to, countered, is_ever, all_ever, wide_claim, early_trial, suited, late_trial}
 
 -- numbers up to a bound
 pub some_from : (n : ℕ) (p : ℕ → Bool) → some_to n p ≡ true → (k : ℕ) × (k ≤ n) × (p k ≡ true)
@@ -66,12 +67,10 @@ fails_from m x v s a g e k =
     )
 
 low : (p q : ℕ) → q < 2 → (q ≢ 1) → min p q ≡ 0
-low p q h n = ⊎_elim (λ e. absurd (n e)) (λ e. let z : q ≡ 0 = zero_of q h e in omega arith) (cases_eq q 1)
-  where
-    zero_of : (q : ℕ) → q < 2 → (q ≢ 1) → q ≡ 0
-    zero_of zero h n = refl
-    zero_of (suc zero) h n = absurd (n refl)
-    zero_of (suc (suc q)) h n = absurd (omega arith)
+low p q h n = omega arith
+
+low_left : (p q : ℕ) → p < 2 → (p ≢ 1) → min p q ≡ 0
+low_left p q h n = omega arith
 
 pub fails_to : (m x : ℕ) (v : Choice) (s : LitSet) → Among m s → Agrees m x v → Fails v s → untrue_at x s ≡ true
 fails_to m x v s a g f = and_from _ _
@@ -81,9 +80,6 @@ fails_to m x v s a g f = and_from _ _
     (λ h. low_left (bit s.plus k) (bit x k) (bit_lt s.plus k) h ∙ sym (zero_bit k))
     (cases_eq (bit s.plus k) 1))))
     (eq-eqb _ _ (within_to s.minus s.minus x (below_power s.minus) (λ k h. told (v k) (In k x) (g k ((a k).1 h)) ((f k).1 h))))
-  where
-    low_left : (p q : ℕ) → p < 2 → (p ≢ 1) → min p q ≡ 0
-    low_left p q h n = omega (arith, low q p h n)
 
 -- a mask and a choice break a line alike
 abbrev pub Alike : ℕ → ℕ → Choice → Choice → Clause → Type 0
@@ -96,7 +92,7 @@ alike m n x y v w c a b g h = (
 )
 
 one_from : (x y : ℕ) (v w : Choice) (cs : List Clause) → AllByRecursion (Alike x y v w) cs → one_broken_at x y cs ≡ true → BreaksOne v w cs
-one_from x y v w [] a e = false≢true e
+one_from x y v w [] a e = cc
 one_from x y v w (c ∷ cs) a e = ⊎_elim (λ h. inl (a.0.0 h)) (λ h. inr (one_from x y v w cs a.1 h)) (or_cases (broken_at x y c) (one_broken_at x y cs) e)
 
 one_to : (x y : ℕ) (v w : Choice) (cs : List Clause) → AllByRecursion (Alike x y v w) cs → BreaksOne v w cs → one_broken_at x y cs ≡ true
@@ -105,13 +101,9 @@ one_to x y v w (c ∷ cs) a (inl b) = or_left (broken_at x y c) (one_broken_at x
 one_to x y v w (c ∷ cs) a (inr b) = or_right (broken_at x y c) (one_broken_at x y cs) (one_to x y v w cs a.1 b)
 
 -- the letters of the claim and of each line are atoms
-now_keep : (m k : ℕ) (cs : List Clause) → In k m → In k (now_letters m cs)
-now_keep m k [] h = h
-now_keep m k (c ∷ cs) h = now_keep (bit_or m (letters_of (now_of c))) k cs (in_left m (letters_of (now_of c)) k h)
-
-next_keep : (m k : ℕ) (cs : List Clause) → In k m → In k (next_letters m cs)
-next_keep m k [] h = h
-next_keep m k (c ∷ cs) h = next_keep (bit_or m (letters_of (next_of c))) k cs (in_left m (letters_of (next_of c)) k h)
+kept : (part : Clause → LitSet) (m k : ℕ) (cs : List Clause) → In k m → In k (letters_with part m cs)
+kept part m k [] h = h
+kept part m k (c ∷ cs) h = kept part (bit_or m (letters_of (part c))) k cs (in_left m (letters_of (part c)) k h)
 
 among_own : (s : LitSet) → Among (letters_of s) s
 among_own s k = (in_left s.plus s.minus k, in_right s.plus s.minus k)
@@ -119,21 +111,13 @@ among_own s k = (in_left s.plus s.minus k, in_right s.plus s.minus k)
 among_more : (m n : ℕ) (s : LitSet) → ((k : ℕ) → In k m → In k n) → Among m s → Among n s
 among_more m n s f a k = (λ h. f k ((a k).0 h), λ h. f k ((a k).1 h))
 
-now_among : (m : ℕ) (cs : List Clause) → AllByRecursion (λ c. Among (now_letters m cs) (now_of c)) cs
-now_among m [] = tt
-now_among m (c ∷ cs) = let l = letters_of (now_of c) in
-    (among_more l (now_letters (bit_or m l) cs) (now_of c) (λ k h. now_keep (bit_or m l) k cs (in_right m l k h)) (among_own (now_of c)), now_among (bit_or m l) cs)
+among_lines : (part : Clause → LitSet) (m : ℕ) (cs : List Clause) → AllByRecursion (λ c. Among (letters_with part m cs) (part c)) cs
+among_lines part m [] = tt
+among_lines part m (c ∷ cs) = let l = letters_of (part c) in
+    (among_more l (letters_with part (bit_or m l) cs) (part c) (λ k h. kept part (bit_or m l) k cs (in_right m l k h)) (among_own (part c)), among_lines part (bit_or m l) cs)
 
-next_among : (m : ℕ) (cs : List Clause) → AllByRecursion (λ c. Among (next_letters m cs) (next_of c)) cs
-next_among m [] = tt
-next_among m (c ∷ cs) = let l = letters_of (next_of c) in
-    (among_more l (next_letters (bit_or m l) cs) (next_of c) (λ k h. next_keep (bit_or m l) k cs (in_right m l k h)) (among_own (next_of c)), next_among (bit_or m l) cs)
-
-claim_now : (e : Claim) (cs : List Clause) → Among (now_atoms e cs) e.now
-claim_now e cs = among_more (letters_of e.now) (now_atoms e cs) e.now (λ k h. now_keep (letters_of e.now) k cs h) (among_own e.now)
-
-claim_next : (e : Claim) (cs : List Clause) → Among (next_atoms e cs) e.next
-claim_next e cs = among_more (letters_of e.next) (next_atoms e cs) e.next (λ k h. next_keep (letters_of e.next) k cs h) (among_own e.next)
+among_first : (part : Clause → LitSet) (s : LitSet) (cs : List Clause) → Among (letters_with part (letters_of s) cs) s
+among_first part s cs = among_more (letters_of s) (letters_with part (letters_of s) cs) s (λ k h. kept part (letters_of s) k cs h) (among_own s)
 
 all_alike : (m n x y : ℕ) (v w : Choice) (cs : List Clause) → Agrees m x v → Agrees n y w → AllByRecursion (λ c. Among m (now_of c)) cs → AllByRecursion (λ c. Among n (next_of c)) cs → AllByRecursion (Alike x y v w) cs
 all_alike m n x y v w [] g h a b = tt
@@ -168,12 +152,8 @@ pub pick_le : (n a : ℕ) (v : Choice) → pick n a v ≤ a
 pick_le zero a v = omega arith
 pick_le (suc n) a v = omega (arith, part_le (v 0) (a % 2), pick_le n (a / 2) (λ k. v (suc k)))
 
-none_of : (b : Bool) (n : ℕ) → n ≡ 0 → 0 ≡ cond b n 0
-none_of true n e = sym e
-none_of false n e = refl
-
 pick_bit : (n a : ℕ) (v : Choice) (k : ℕ) → a < 2 ^ n → bit (pick n a v) k ≡ cond (v k) (bit a k) 0
-pick_bit zero a v k h = zero_bit k ∙ none_of (v k) (bit a k) (let z : a ≡ 0 = omega arith in ap (λ m. bit m k) z ∙ zero_bit k)
+pick_bit zero a v k h = zero_bit k ∙ cond_both (v k) (bit a k) 0 (λ m. 0 ≡ m) (λ _. let z : a ≡ 0 = omega arith in sym (ap (λ m. bit m k) z ∙ zero_bit k)) (λ _. refl)
 pick_bit (suc n) a v zero h = bit_zero (pick (suc n) a v) ∙ omega (arith, part_le (v 0) (a % 2)) ∙ ap (λ m. cond (v 0) m 0) (sym (bit_zero a))
 pick_bit (suc n) a v (suc k) h =
     let w = pow-succ' 2 n in
@@ -196,11 +176,11 @@ pick_sub a v = within_to a (pick a a v) a (omega (arith, pick_le a a v, below_po
 pub counter_to : (e : Claim) (cs : List Clause) (v w : Choice) → Breaks v w (claimed e) → (one_broken_at (pick (now_atoms e cs) (now_atoms e cs) v) (pick (next_atoms e cs) (next_atoms e cs) w) cs ≡ false)
     → counter_at (pick (now_atoms e cs) (now_atoms e cs) v) (pick (next_atoms e cs) (next_atoms e cs) w) (claimed e) cs ≡ true
 counter_to e cs v w b f = let a = now_atoms e cs in let n = next_atoms e cs in
-    and_from _ _ ((alike a n (pick a a v) (pick n n w) v w (claimed e) (claim_now e cs) (claim_next e cs) (pick_agrees a v) (pick_agrees n w)).1 b) (not_from_false _ f)
+    and_from _ _ ((alike a n (pick a a v) (pick n n w) v w (claimed e) (among_first now_of e.now cs) (among_first next_of e.next cs) (pick_agrees a v) (pick_agrees n w)).1 b) (not_from_false _ f)
 
 picked_alike : (e : Claim) (cs : List Clause) (v w : Choice) → AllByRecursion (Alike (pick (now_atoms e cs) (now_atoms e cs) v) (pick (next_atoms e cs) (next_atoms e cs) w) v w) cs
 picked_alike e cs v w = let a = now_atoms e cs in let n = next_atoms e cs in
-    all_alike a n (pick a a v) (pick n n w) v w cs (pick_agrees a v) (pick_agrees n w) (now_among (letters_of e.now) cs) (next_among (letters_of e.next) cs)
+    all_alike a n (pick a a v) (pick n n w) v w cs (pick_agrees a v) (pick_agrees n w) (among_lines now_of (letters_of e.now) cs) (among_lines next_of (letters_of e.next) cs)
 
 pub masks_from : (e : Claim) (cs : List Clause) → Refuted cs (claimed e) → (y : ℕ) × Sub y (next_atoms e cs) × (x : ℕ) × Sub x (now_atoms e cs) × (counter_at x y (claimed e) cs ≡ true)
 masks_from e cs (v, w, b, n) = let a = now_atoms e cs in let d = next_atoms e cs in
@@ -268,11 +248,11 @@ follows_sound e cs p f r i u b = let a = now_atoms e cs in let d = next_atoms e 
     decided a (LetterTrue r i) (λ v g. decided d (LetterTrue r (i + 1)) (λ w h.
     let g' : (k : ℕ) → In k a → Tells (v k) (LetterTrue r i k) = λ k l. g k (in_below a a k (below_power a) l) in
     let h' : (k : ℕ) → In k d → Tells (w k) (LetterTrue r (i + 1) k) = λ k l. h k (in_below d d k (below_power d) l) in
-    none_breaks a d r i v w cs p (now_among (letters_of e.now) cs) (next_among (letters_of e.next) cs) g' h' u
-    (f v w (untrue_fails a r i v e.now (claim_now e cs) g' b.0, untrue_fails d r (i + 1) w e.next (claim_next e cs) h' b.1))))
+    none_breaks a d r i v w cs p (among_lines now_of (letters_of e.now) cs) (among_lines next_of (letters_of e.next) cs) g' h' u
+    (f v w (untrue_fails a r i v e.now (among_first now_of e.now cs) g' b.0, untrue_fails d r (i + 1) w e.next (among_first next_of e.next cs) h' b.1))))
 
 -- what is asked before
-pub wide_over : (s : LitSet) → wide s ≡ true → Over 59 s
+pub wide_over : (s : LitSet) → reaches 60 s ≡ true → Over 59 s
 wide_over s e = ⊎_elim
     (λ p. let w = over s.plus (ltb-false _ _ p) in (w.0, w.1, inl w.2))
     (λ p. let w = over s.minus (ltb-false _ _ p) in (w.0, w.1, inr w.2))
@@ -281,36 +261,32 @@ wide_over s e = ⊎_elim
     over : (n : ℕ) → 2 ^ 60 ≤ n → (k : ℕ) × (59 < k) × In k n
     over n h = shifted_some n n 59 (below_power n) (λ z. omega arith)
 
-pub wide_not : (s : LitSet) → wide s ≡ false → ¬ Over 59 s
+pub wide_not : (s : LitSet) → reaches 60 s ≡ false → ¬ Over 59 s
 wide_not s e w =
     let q = and_parts (nat_lt s.plus (2 ^ 60)) (nat_lt s.minus (2 ^ 60)) (not-false _ e) in
     ⊎_elim (λ i. omega (arith, w.1, in_below 60 s.plus w.0 (ltb-true _ _ q.0) i)) (λ i. omega (arith, w.1, in_below 60 s.minus w.0 (ltb-true _ _ q.1) i)) w.2
 
 ever_from : (c : Clause) → is_ever c ≡ true → Ever c
-ever_from (Initial _) e = false≢true e
+ever_from (Initial _) e = cc
 ever_from (Global _ _) e = tt
-ever_from (Eventuality _ _) e = false≢true e
+ever_from (Eventuality _ _) e = cc
 ever_from (Assumption _) e = tt
-ever_from (Never _ _) e = false≢true e
+ever_from (Never _ _) e = cc
 
 pub all_from : (cs : List Clause) → all_ever cs ≡ true → AllByRecursion Ever cs
 all_from [] e = tt
 all_from (c ∷ cs) e = let q = and_parts (is_ever c) (all_ever cs) e in (ever_from c q.0, all_from cs q.1)
-
-length_here : (n : ℕ) → length (replicate n here) ≡ n
-length_here zero = refl
-length_here (suc n) = ap suc (length_here n)
 
 pub right_trial : (e : Claim) (cs : List Clause) → Right cs (late_trial e cs)
 right_trial e cs = cond_both (suited e cs) _ _ (Right cs)
     (λ s.
     let q = and_parts (not (wide_claim e)) (nat_le (length cs) 4 && all_ever cs) s in
     let k = and_parts (nat_le (length cs) 4) (all_ever cs) q.1 in
-    let w = or_parts (wide e.now) (wide e.next) (not-true _ q.0) in
+    let w = or_parts (reaches 60 e.now) (reaches 60 e.next) (not-true _ q.0) in
     cond_both (nat_lt 10 (atoms e cs)) _ _ (Right cs) (λ _. (omega arith, omega arith))
     (λ _. cond_both (countered (now_atoms e cs) (next_atoms e cs) (claimed e) cs) _ _ (Right cs) (λ _. (omega arith, omega arith))
     (λ f. (
-      length_here (length cs),
+      length-replicate (length cs) here,
       (λ _. (wide_not e.now w.0, wide_not e.next w.1, λ h. omega arith)),
       follows_sound e cs (all_from cs k.1) (follows_from e cs f),
     ))))

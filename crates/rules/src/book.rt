@@ -1,13 +1,30 @@
-ghost use Rattle.std.specs.Prelude.{◌≡◌, ℕ, List, length};
+ghost use Rattle.std.specs.Prelude.{◌≡◌, ℕ, true, false, List, length};
 ghost use Rattle.clause.specs.declared.syntax.Clause.{Clause as TheClause};
 ghost use Rattle.rules.specs.Books.{Consult, Sound, Tidy, outcome_of};
 
 use clause::refusal::Refusal;
-use clause::syntax::Clause;
+use clause::syntax::{Clause, LitSet};
 
 // A book's internal answer, plain numbers: is the conclusion initial, its now masks, its next masks (plus, minus), and a
 // bit for each cited line, the first lowest, that is 1 where the line is used at every moment.
 pub type Masks = (bool, u64, u64, u64, u64, u8);
+
+// The answer that concludes an initial line: nothing of it holds at later moments, and each cited line is used at its moment.
+pub fn initially(set: LitSet) -> Masks
+    ensures { result ≡ (true, set.plus, set.minus, 0, 0, 0) }
+{
+    let LitSet { plus, minus } = set;
+    (true, plus, minus, 0, 0, 0)
+}
+
+// The answer that concludes a global line, with the marks of the cited lines.
+pub fn globally(now: LitSet, next: LitSet, everywhere: u8) -> Masks
+    ensures { result ≡ (false, now.plus, now.minus, next.plus, next.minus, everywhere) }
+{
+    (
+        false, now.plus, now.minus, next.plus, next.minus, everywhere,
+    )
+}
 
 // Derives a line from cited lines and evidence. Its meaning is two fixed functions, and the book answers just as they say.
 pub trait RuleBook {

@@ -4,7 +4,7 @@ ghost use Rattle.rules.specs.Resolving.{global_form, form_of, read_in, resolvent
 ghost use Rattle.rules.specs.ResolvingSound.{resolving};
 ghost use Rattle.std.proofs.Common.{rules};
 
-use crate::book::{Masks, RuleBook};
+use crate::book::{Masks, RuleBook, globally, initially};
 use clause::refusal::Refusal;
 use clause::syntax::{Clause, LitSet, Literal};
 
@@ -35,8 +35,7 @@ impl Form {
     {
         match line {
             Clause::Initial(_) => Some(Form::AtFirst),
-            Clause::Global(_, x) => Some(Form::of_next(x)),
-            Clause::Assumption(x) => Some(Form::of_next(x)),
+            Clause::Global(_, x) | Clause::Assumption(x) => Some(Form::of_next(x)),
             _ => None,
         }
     }
@@ -64,25 +63,9 @@ fn resolvent(k: u8, s: LitSet, t: LitSet) -> Option<LitSet>
         letter: k,
         positive: false,
     };
-    if s.has(yes) && t.has(no) {
-        Some(s.without(LitSet::of(yes)).union(t.without(LitSet::of(no))))
-    } else {
-        None
-    }
-}
-
-fn initially(s: LitSet) -> Masks
-    ensures { result ≡ (true, s.plus, s.minus, 0, 0, 0) }
-{
-    (true, s.plus, s.minus, 0, 0, 0)
-}
-
-fn globally(now: LitSet, next: LitSet, everywhere: u8) -> Masks
-    ensures { result ≡ (false, now.plus, now.minus, next.plus, next.minus, everywhere) }
-{
-    (
-        false, now.plus, now.minus, next.plus, next.minus, everywhere,
-    )
+    let rest = s.without(LitSet::of(yes)).union(t.without(LitSet::of(no)));
+    let clash = s.has(yes) && t.has(no);
+    clash.then_some(rest)
 }
 
 // The conclusion from two lines of these forms and now sets, with what is left of the sets read.
@@ -90,17 +73,17 @@ fn settle(f: Form, g: Form, m: LitSet, n: LitSet, left: Option<LitSet>) -> Resul
     ensures answer { settled f g m n left ≡ outcome_of 2 result }
     ensures tidy { Tidy 2 result }
 {
-    match (f, g, left) {
-        (Form::AtFirst, Form::WithNext, _) => Err(Refusal::InitialMeetsNext),
-        (Form::WithNext, Form::AtFirst, _) => Err(Refusal::InitialMeetsNext),
-        (_, _, None) => Err(Refusal::LacksLiteral),
-        (Form::AtFirst, _, Some(s)) => Ok(initially(s)),
-        (_, Form::AtFirst, Some(s)) => Ok(initially(s)),
-        (Form::NowOnly, Form::NowOnly, Some(s)) => Ok(globally(s, LitSet::NONE, 0)),
-        (Form::WithNext, Form::WithNext, Some(s)) => Ok(globally(m.union(n), s, 0)),
-        (Form::WithNext, Form::NowOnly, Some(s)) => Ok(globally(m, s, 2)),
-        (Form::NowOnly, Form::WithNext, Some(s)) => Ok(globally(n, s, 1)),
+    if let (Form::AtFirst, Form::WithNext) | (Form::WithNext, Form::AtFirst) = (f, g) {
+        return Err(Refusal::InitialMeetsNext);
     }
+    let s = left.ok_or(Refusal::LacksLiteral)?;
+    Ok(match (f, g) {
+        (Form::AtFirst, _) | (_, Form::AtFirst) => initially(s),
+        (Form::NowOnly, Form::NowOnly) => globally(s, LitSet::NONE, 0),
+        (Form::WithNext, Form::WithNext) => globally(m.union(n), s, 0),
+        (Form::WithNext, Form::NowOnly) => globally(m, s, 2),
+        (Form::NowOnly, Form::WithNext) => globally(n, s, 1),
+    })
 }
 
 // The resolution of two lines on the letter k.
@@ -108,16 +91,15 @@ fn resolve(k: u8, x: Clause, y: Clause) -> Result<Masks, Refusal>
     ensures answer { pair_of k x y ≡ outcome_of 2 result }
     ensures tidy { Tidy 2 result }
 {
-    match (Form::of(x), Form::of(y)) {
-        (Some(f), Some(g)) => settle(
-            f,
-            g,
-            x.now_set(),
-            y.now_set(),
-            resolvent(k, f.read(x), g.read(y)),
-        ),
-        _ => Err(Refusal::WrongKind),
-    }
+    let f = Form::of(x).ok_or(Refusal::WrongKind)?;
+    let g = Form::of(y).ok_or(Refusal::WrongKind)?;
+    settle(
+        f,
+        g,
+        x.now_set(),
+        y.now_set(),
+        resolvent(k, f.read(x), g.read(y)),
+    )
 }
 
 // Two lines, the first with +k and the second with -k, give what is left of them. The evidence is the letter k.
@@ -144,7 +126,7 @@ impl RuleBook for Resolution {
     fn early(&self, k: u8, count: usize) -> Option<Refusal> {
         if k > 59 {
             Some(Refusal::LetterRange)
-        } else if count != 2 {
+        } else if count != Self::MAX_CITED {
             Some(Refusal::WrongCount)
         } else {
             None

@@ -1,13 +1,13 @@
-ghost use Rattle.std.specs.Prelude.{◌≡◌, ℕ, ◌≤◌, true, length, ◌==◌};
+ghost use Rattle.std.specs.Prelude.{◌≡◌, ℕ, ◌+◌, true, length, count_ones};
+ghost use Rattle.std.specs.Iterator.{at_most};
 ghost use Rattle.clause.specs.Tests.{Tells};
 ghost use Rattle.rules.specs.Books.{outcome_of, Tidy};
 ghost use Rattle.rules.specs.Trying.{claimed, Judged};
-ghost use Rattle.rules.specs.Deciding.{letters_of, now_atoms, next_atoms, is_ever, all_ever, wide_claim, untrue_at, one_broken_at, counter_at, Sub, suited, late_trial, NextSub};
-ghost use Rattle.rules.specs.Halves.{Halved, half_broken, half_counter, place_broken, one_half_broken};
+ghost use Rattle.rules.specs.Deciding.{now_atoms, next_atoms, is_ever, all_ever, wide_claim, broken_at, counter_at, Sub, NextSub, suited, late_trial, all_choices, GivesChoice, choices_left};
 ghost use Rattle.rules.specs.TryingSound.{trying};
 ghost use Rattle.std.proofs.Common.{rules};
 
-use crate::book::{Masks, RuleBook};
+use crate::book::{Masks, RuleBook, globally};
 use clause::refusal::Refusal;
 use clause::syntax::{Clause, LitSet};
 
@@ -25,152 +25,107 @@ impl Claim {
     {
         self.now.over(59) || self.next.over(59)
     }
-}
 
-fn letters(s: LitSet) -> u64
-    ensures { result ≡ letters_of s }
-{
-    s.plus | s.minus
-}
-
-// The letters of the claim and the lines, now and next.
-fn atoms(claim: Claim, cited: &[Clause]) -> (u64, u64)
-    ensures now { result.0 ≡ now_atoms claim cited.now }
-    ensures next { result.1 ≡ next_atoms claim cited.now }
-{
-    let mut a = letters(claim.now);
-    let mut b = letters(claim.next);
-    for line in cited {
-        a |= letters(line.now_set());
-        b |= letters(line.next_set());
-    }
-    (a, b)
-}
-
-fn is_global(line: Clause) -> bool
-    ensures { result ≡ is_ever line }
-{
-    match line {
-        Clause::Global(_, _) => true,
-        Clause::Assumption(_) => true,
-        _ => false,
+    fn clause(self) -> Clause
+        ensures { result ≡ claimed self }
+    {
+        Clause::Global(self.now, self.next)
     }
 }
 
-fn all_global(cited: &[Clause]) -> bool
-    ensures { result ≡ all_ever cited.now }
-{
-    for line in cited {
-        if !is_global(*line) {
-            return false;
+// The letters of a claim and its lines, now and next, as masks.
+#[derive(Clone, Copy)]
+struct Atoms {
+    now: u64,
+    next: u64,
+}
+
+impl Atoms {
+    fn of(claim: Claim, cited: &[Clause]) -> Atoms
+        ensures now { result.now ≡ now_atoms claim cited.now }
+        ensures next { result.next ≡ next_atoms claim cited.now }
+    {
+        Atoms {
+            now: cited.iter().fold(
+                claim.now.letters(),
+                |all, line| all | line.now_set().letters(),
+            ),
+            next: cited.iter().fold(
+                claim.next.letters(),
+                |all, line| all | line.next_set().letters(),
+            ),
         }
     }
-    true
-}
 
-// The literals of a set that are true where just the letters of the choice are: 0 where there is none.
-fn truths(s: LitSet, choice: u64) -> u64
-    ensures { (result == 0) ≡ untrue_at choice s }
-{
-    s.plus & choice | s.minus & !choice
+    fn count(self) -> u32
+        ensures { result ≡ count_ones self.now + count_ones self.next }
+    {
+        self.now.count_ones() + self.next.count_ones()
+    }
 }
 
 // The choice that follows x, from all the letters of a down to none: the greatest below it.
 fn below(x: u64, a: u64) -> Option<u64>
     ensures { NextSub x a result }
 {
-    if x == 0 { None } else { Some((x - 1) & a) }
+    Some(x.checked_sub(1)? & a)
 }
 
-// A line with the next letters chosen: its now literals, and the true ones among its next literals.
-#[derive(Clone, Copy)]
-struct Half {
-    plus: u64,
-    minus: u64,
-    next: u64,
+// The choices among the letters of a mask, from all of them down to none.
+#[derive(Drop)]
+struct Choices {
+    letters: u64,
+    next: Option<u64>,
 }
 
-impl Half {
-    fn of(now: LitSet, next: LitSet, y: u64) -> Half
-        ensures { Halved now next y result }
+impl Choices {
+    fn among(letters: u64) -> Choices
+        ensures { result ≡ all_choices letters }
     {
-        Half {
-            plus: now.plus,
-            minus: now.minus,
-            next: truths(next, y),
-        }
-    }
-
-    // Does the choice x of the now letters break the line?
-    fn broken(self, x: u64) -> bool
-        ensures { result ≡ half_broken x self }
-    {
-        self.plus & x | self.minus & !x | self.next == 0
-    }
-}
-
-// The line at a place; past the last, one that nothing breaks.
-fn half_at(cited: &[Clause], i: usize, y: u64) -> Half
-    ensures { (x : ℕ) → half_broken x result ≡ place_broken x y cited.now i }
-{
-    if i < cited.len() {
-        let line = cited[i];
-        Half::of(line.now_set(), line.next_set(), y)
-    } else {
-        Half {
-            plus: 0,
-            minus: 0,
-            next: 1,
+        Choices {
+            letters,
+            next: Some(letters),
         }
     }
 }
 
-fn halves(cited: &[Clause], y: u64) -> [Half; 4]
-    requires { length cited.now ≤ 4 }
-    ensures { (x : ℕ) → one_half_broken x result ≡ one_broken_at x y cited.now }
-{
-    [
-        half_at(cited, 0, y),
-        half_at(cited, 1, y),
-        half_at(cited, 2, y),
-        half_at(cited, 3, y),
-    ]
+impl Iterator for Choices {
+    type Item = u64;
+
+    ghost next_gives = { GivesChoice };
+
+    ghost remaining = { λ s. at_most (choices_left s.next) };
+
+    fn next(&mut self) -> Option<u64> {
+        let choice = self.next?;
+        self.next = below(choice, self.letters);
+        Some(choice)
+    }
 }
 
-// Does a choice among the letters of a break the claim and none of the lines?
-fn counter_now(claim: Half, lines: &[Half], a: u64) -> bool
-    ensures { Tells result ((x : ℕ) × Sub x a × (half_counter x claim lines.now ≡ true)) }
+// Do the choices x now and y next make each literal of the line untrue?
+fn breaks(x: u64, y: u64, line: Clause) -> bool
+    ensures { result ≡ broken_at x y line }
 {
-    let mut choice = Some(a);
-    'choices: while let Some(x) = choice {
-        choice = below(x, a);
-        if !claim.broken(x) {
-            continue 'choices;
-        }
-        for line in lines {
-            if line.broken(x) {
+    line.now_set().untrue_in(x) && line.next_set().untrue_in(y)
+}
+
+// Does a choice of the atoms break the claim and none of the lines?
+fn has_counterexample(claim: Claim, cited: &[Clause], atoms: Atoms) -> bool
+    ensures { Tells result ((y : ℕ) × Sub y atoms.next × (x : ℕ) × Sub x atoms.now × (counter_at x y (claimed claim) cited.now ≡ true)) }
+{
+    // By a rule of the project the choices and the lines are searched by loops, which a label leaves.
+    for y in Choices::among(atoms.next) {
+        'choices: for x in Choices::among(atoms.now) {
+            if !breaks(x, y, claim.clause()) {
                 continue 'choices;
             }
-        }
-        return true;
-    }
-    false
-}
-
-// Does a choice among the letters a now and b next break the claim and none of the lines?
-fn counter(claim: Claim, cited: &[Clause], a: u64, b: u64) -> bool
-    requires { length cited.now ≤ 4 }
-    ensures { Tells result ((y : ℕ) × Sub y b × (x : ℕ) × Sub x a × (counter_at x y (claimed claim) cited.now ≡ true)) }
-{
-    let mut choice = Some(b);
-    while let Some(y) = choice {
-        choice = below(y, b);
-        let half = Half::of(claim.now, claim.next, y);
-        if half.next == 0 {
-            let lines = halves(cited, y);
-            if counter_now(half, &lines, a) {
-                return true;
+            for line in cited {
+                if breaks(x, y, *line) {
+                    continue 'choices;
+                }
             }
+            return true;
         }
     }
     false
@@ -179,11 +134,24 @@ fn counter(claim: Claim, cited: &[Clause], a: u64, b: u64) -> bool
 // The greatest number of atoms of a trial.
 const MOST_ATOMS: u32 = 10;
 
+// A global line, or an assumption, which is read as one.
+fn is_global(line: Clause) -> bool
+    ensures { result ≡ is_ever line }
+{
+    matches!(line, Clause::Global(_, _) | Clause::Assumption(_))
+}
+
+fn all_global(cited: &[Clause]) -> bool
+    ensures { result ≡ all_ever cited.now }
+{
+    cited.iter().all(|line| is_global(*line))
+}
+
 // Is the claim slim, are there few lines, and is each one global?
 fn suits(claim: Claim, cited: &[Clause]) -> bool
     ensures { result ≡ suited claim cited.now }
 {
-    !claim.is_wide() && cited.len() <= 4 && all_global(cited)
+    !claim.is_wide() && cited.len() <= Trial::MAX_CITED && all_global(cited)
 }
 
 fn attempt(claim: Claim, cited: &[Clause]) -> Result<Masks, Refusal>
@@ -193,15 +161,14 @@ fn attempt(claim: Claim, cited: &[Clause]) -> Result<Masks, Refusal>
     if !suits(claim, cited) {
         return Err(Refusal::WrongKind);
     }
-    let (a, b) = atoms(claim, cited);
-    if a.count_ones() + b.count_ones() > MOST_ATOMS {
+    let atoms = Atoms::of(claim, cited);
+    if atoms.count() > MOST_ATOMS {
         return Err(Refusal::TooManyAtoms);
     }
-    if counter(claim, cited, a, b) {
+    if has_counterexample(claim, cited, atoms) {
         return Err(Refusal::Counterexample);
     }
-    let Claim { now, next } = claim;
-    Ok((false, now.plus, now.minus, next.plus, next.minus, 0))
+    Ok(globally(claim.now, claim.next, 0))
 }
 
 // A claim is accepted where each choice of its atoms and the lines' that breaks it breaks a cited line.
@@ -228,7 +195,7 @@ impl RuleBook for Trial {
     fn early(&self, claim: Claim, count: usize) -> Option<Refusal> {
         if claim.is_wide() {
             Some(Refusal::LetterRange)
-        } else if count == 0 || count > 4 {
+        } else if !(1..=Self::MAX_CITED).contains(&count) {
             Some(Refusal::WrongCount)
         } else {
             None

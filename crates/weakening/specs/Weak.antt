@@ -8,11 +8,10 @@ use Rattle.clause.specs.declared.syntax.Clause.TheVariants.{Initial, Global, Eve
 use Rattle.clause.specs.declared.refusal.Refusal.{Refusal}
 use Rattle.clause.specs.declared.refusal.Refusal.TheVariants.{LetterRange, WrongCount, WrongKind}
 use Rattle.clause.specs.Meaning.{◌∪◌}
-use Rattle.clause.specs.Sets.{Over}
+use Rattle.clause.specs.Sets.{Over, reaches}
 use Rattle.clause.proofs.Truths.{untrue_left}
 use Rattle.rules.specs.Books.{Consult, here, initially, Outcome, refuses, gives}
 use Rattle.rules.specs.BookLaws.{Right, right_sound, Early}
-use Rattle.rules.specs.Deciding.{wide}
 use Rattle.rules.specs.ResolvingSound.{low_union, low_none}
 use Rattle.rules.specs.TryingSound.{wide_not}
 
@@ -25,7 +24,7 @@ one e (Never _ _) = refuses WrongKind
 
 -- early lets no evidence with a letter above 59 through
 abbrev pub weaker_of : LitSet → Clause → Outcome
-weaker_of e c = cond (wide e) (refuses WrongKind) (one e c)
+weaker_of e c = cond (reaches 60 e) (refuses WrongKind) (one e c)
 
 -- and just one line
 abbrev pub late_of : LitSet → List Clause → Outcome
@@ -34,7 +33,7 @@ late_of e (c ∷ []) = weaker_of e c
 late_of e (c ∷ d ∷ cs) = refuses WrongKind
 
 abbrev pub early_of : LitSet → ℕ → Option Refusal
-early_of e n = cond (wide e) (Some LetterRange) (cond (not (n == 1)) (Some WrongCount) None)
+early_of e n = cond (reaches 60 e) (Some LetterRange) (cond (not (n == 1)) (Some WrongCount) None)
 
 right_one : (e : LitSet) (c : Clause) → ¬ Over 59 e → Right (c ∷ []) (one e c)
 right_one e (Initial s) w = (
@@ -49,14 +48,14 @@ right_one e (Never _ _) w = (omega arith, omega arith)
 
 pub right : (e : LitSet) (cs : List Clause) → Right cs (late_of e cs)
 right e [] = (omega arith, omega arith)
-right e (c ∷ []) = cond_both (wide e) _ _ (Right (c ∷ [])) (λ _. (omega arith, omega arith)) (λ n. right_one e c (wide_not e n))
+right e (c ∷ []) = cond_both (reaches 60 e) _ _ (Right (c ∷ [])) (λ _. (omega arith, omega arith)) (λ n. right_one e c (wide_not e n))
 right e (c ∷ d ∷ cs) = (omega arith, omega arith)
 
 pub early_right : (e : LitSet) (n : ℕ) → Early (early_of e n)
-early_right e n = cond_both (wide e) _ _ Early (λ _. inl refl) (λ _. cond_both (not (n == 1)) _ _ Early (λ _. inr refl) (λ _. tt))
+early_right e n = cond_both (reaches 60 e) _ _ Early (λ _. inl refl) (λ _. cond_both (not (n == 1)) _ _ Early (λ _. inr refl) (λ _. tt))
 
 pub early_many : (e : LitSet) (n : ℕ) → 1 < n → (f : Refusal) × (early_of e n ≡ Some f)
-early_many e n h = cond_both (wide e) _ _ (λ o. (f : Refusal) × (o ≡ Some f)) (λ _. (LetterRange, refl)) (λ _. (WrongCount, rw (ne_eqb n 1 (λ z. omega arith))))
+early_many e n h = cond_both (reaches 60 e) _ _ (λ o. (f : Refusal) × (o ≡ Some f)) (λ _. (LetterRange, refl)) (λ _. (WrongCount, rw (ne_eqb n 1 (λ z. omega arith))))
 
 -- the book, with its evidence given
 abbrev pub weakening : LitSet → Consult

@@ -1,33 +1,19 @@
 ghost use Rattle.std.specs.Prelude.{◌≡◌};
 ghost use Rattle.rules.specs.Books.{outcome_of, Tidy};
-ghost use Rattle.rules.specs.Deciding.{wide};
 ghost use Rattle.weakening.specs.Weak.{weaker_of, weakening};
 ghost use Rattle.std.proofs.Common.{rules};
 
 use clause::refusal::Refusal;
 use clause::syntax::{Clause, LitSet};
-use rules::book::{Masks, RuleBook};
-
-// Has the set a letter above 59?
-fn is_wide(s: LitSet) -> bool
-    ensures { result ≡ wide s }
-{
-    s.over(59)
-}
+use rules::book::{initially, Masks, RuleBook};
 
 // An initial line with the literals of the evidence too.
 fn weaker(line: Clause, evidence: LitSet) -> Result<Masks, Refusal>
     ensures answer { weaker_of evidence line ≡ outcome_of 1 result }
     ensures tidy { Tidy 1 result }
 {
-    if is_wide(evidence) {
-        return Err(Refusal::WrongKind);
-    }
     match line {
-        Clause::Initial(s) => {
-            let all = s.union(evidence);
-            Ok((true, all.plus, all.minus, 0, 0, 0))
-        }
+        Clause::Initial(s) if !evidence.over(59) => Ok(initially(s.union(evidence))),
         _ => Err(Refusal::WrongKind),
     }
 }
@@ -54,7 +40,7 @@ impl RuleBook for Weaken {
     }
 
     fn early(&self, evidence: LitSet, count: usize) -> Option<Refusal> {
-        if is_wide(evidence) {
+        if evidence.over(59) {
             Some(Refusal::LetterRange)
         } else if count != 1 {
             Some(Refusal::WrongCount)
