@@ -3,7 +3,7 @@ use Rattle.std.proofs.Common.{◌≡◌, ℕ, ◌+◌, ◌<◌, ◌≤◌, Bool,
 use Rattle.std.proofs.lemmas.Bool.{cond-false, ne_eqb, eq-eqb, lt-leb, le-leb}
 use Rattle.clause.specs.declared.refusal.Fault.{Fault}
 use Rattle.clause.specs.declared.refusal.Refusal.TheVariants.{UnknownKey, WrongState}
-use Rattle.clause.specs.Refusals.{plain}
+use Rattle.clause.specs.Refusals.{plain, placed}
 use Rattle.protocol.specs.State as model
 use Rattle.lines.specs.declared.line.Line.{Line}
 use Rattle.case.specs.declared.stage.Intake.{Intake}
@@ -20,7 +20,7 @@ use Rattle.text.specs.declared.stage.Stage.{Stage}
 use Rattle.text.specs.declared.stage.Stage.TheVariants.{Taking, Working, Looping}
 use Rattle.text.specs.declared.stage.Verdict.{Verdict}
 use Rattle.text.specs.Calls.{view, LedTo}
-use Rattle.text.specs.Reading.{Found, ends, stops, goes, placed, verdict, lines, lines_in, LineRead, left, Held, Comes, TextRead}
+use Rattle.text.specs.Reading.{Found, ends, stops, goes, verdict, lines, lines_in, LineRead, left, Held, Comes, TextRead}
 use Rattle.text.specs.Texts.{LengthChecked}
 use Rattle.text.proofs.Standings.{view_last, view_lines, same_number}
 

@@ -1,5 +1,6 @@
 -- Numbers of lines, and what is known of them.
 use Rattle.std.proofs.Common.{◌≡◌, ℕ, ◌≤◌, List, length, take, Ok, Err, Result, sym, ap, ◌∙◌, subst, arith}
+use Rattle.clause.specs.Refusals.{placed}
 use Rattle.std.proofs.lemmas.List.{length-map}
 use Rattle.clause.specs.declared.refusal.Fault.{Fault}
 use Rattle.protocol.specs.State as model
@@ -13,7 +14,7 @@ use Rattle.records.specs.declared.record.Record.{Record}
 use Rattle.records.specs.declared.record.Record.TheVariants.{Give, Seal, WaitLine, WaitLiteral, Resolve, Trial, OpenLoop, CloseLoop, Abandon, DrawFor, Draw, Refute}
 use Rattle.text.specs.Calls.{view, Step}
 use Rattle.text.specs.Fields.{field_of}
-use Rattle.text.specs.Reading.{Found, found, placed, Judged, first_of}
+use Rattle.text.specs.Reading.{Found, found, Judged, first_of}
 
 pub lines_length : (t : List Line) → length (lines_of t) ≡ length t
 lines_length t = length-map t line_of

@@ -2,17 +2,12 @@
 use Rattle.std.specs.Prelude.{ℕ, Bool, true, false, cond, ◌&&◌, ◌||◌, List, length, Some, None, Option, ◌==◌, nat_le, nat_lt}
 use Rattle.clause.specs.declared.refusal.Refusal.{Refusal}
 use Rattle.clause.specs.declared.refusal.Refusal.TheVariants.{LetterRange, NoSuchLine, NotInForce, WrongKind}
-use Rattle.clause.specs.declared.syntax.LitSet.{LitSet}
 use Rattle.clause.specs.declared.syntax.Clause.{Clause}
 use Rattle.clause.specs.declared.syntax.Clause.TheVariants.{Initial, Global, Eventuality, Assumption, Never}
+use Rattle.clause.specs.Sets.{reaches}
 use Rattle.protocol.specs.State as model
 use Rattle.records.specs.declared.record.Record.{Record}
 use Rattle.records.specs.declared.record.Record.TheVariants.{Give, Seal, WaitLine, WaitLiteral, Resolve, Trial, OpenLoop, CloseLoop, Abandon, DrawFor, Draw, Refute}
-use Rattle.records.specs.Guards.{wide}
-
--- a letter above 19 in a set
-abbrev pub not_plain : LitSet → Bool
-not_plain s = nat_le 1048576 s.plus || nat_le 1048576 s.minus
 
 -- the second field, or else the third
 abbrev pub second_if : Bool → ℕ
@@ -21,8 +16,8 @@ second_if b = cond b 2 3
 -- the first field of a given clause with a letter above 19
 abbrev pub over_field : Clause → ℕ
 over_field (Initial s) = 2
-over_field (Global s x) = second_if (not_plain s)
-over_field (Eventuality s l) = second_if (not_plain s)
+over_field (Global s x) = second_if (reaches 20 s)
+over_field (Eventuality s l) = second_if (reaches 20 s)
 over_field (Assumption x) = 2
 over_field (Never s l) = 2
 
@@ -33,7 +28,7 @@ letter_field Seal = 0
 letter_field (WaitLine n) = 0
 letter_field (WaitLiteral l) = 2
 letter_field (Resolve a b k) = 4
-letter_field (Trial n x ns) = second_if (wide n)
+letter_field (Trial n x ns) = second_if (reaches 60 n)
 letter_field (OpenLoop l gs) = cond (nat_lt 19 l.letter) 2 gs.over
 letter_field (CloseLoop ns) = 0
 letter_field Abandon = 0

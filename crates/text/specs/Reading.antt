@@ -3,7 +3,7 @@ use Rattle.std.specs.Prelude.{◌≡◌, ℕ, ◌+◌, ◌-◌, Bool, true, fals
 use Rattle.clause.specs.declared.refusal.Fault.{Fault}
 use Rattle.clause.specs.declared.refusal.Refusal.{Refusal}
 use Rattle.clause.specs.declared.refusal.Refusal.TheVariants.{WrongSize, TextTooLong, TextEmpty, WrongState}
-use Rattle.clause.specs.Refusals.{plain}
+use Rattle.clause.specs.Refusals.{plain, placed}
 use Rattle.protocol.specs.State as model
 use Rattle.lines.specs.declared.line.Line.{Line}
 use Rattle.lines.specs.View.{lines_of, BlankFrom}
@@ -24,10 +24,6 @@ abbrev pub first_of : model.Stage → Option ℕ
 first_of model.intake = None
 first_of model.sealed = None
 first_of (model.loop f l gs) = Some f
-
--- a fault, with the text's line and field
-abbrev pub placed : ℕ → ℕ → Fault → Fault
-placed line field f = record { refusal = f.refusal; line = line; field = field; detail = f.detail }
 
 -- the last accepted refutation: its line, and the size of its core
 abbrev pub Found : Type 0

@@ -3,7 +3,6 @@ ghost use Rattle.case.specs.View.{view_loop, stage_of};
 ghost use Rattle.text.specs.Calls.{view, LedTo};
 ghost use Rattle.text.specs.Reading.{Held, left, Comes, verdict as the_verdict};
 
-use crate::places::placed;
 use crate::stage::{Refuted, Stage, Verdict};
 use case::stage::{OpenLoop, Sealed};
 use clause::refusal::{Fault, Refusal};
@@ -64,7 +63,7 @@ pub(crate) fn finish(
         }
         Stage::Looping(o) => {
             give_up(o, table);
-            Err(placed(n, 0, Fault::of(Refusal::WrongState)))
+            Err(Fault::of(Refusal::WrongState).placed(n, 0))
         }
     }
 }

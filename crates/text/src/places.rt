@@ -1,34 +1,21 @@
 ghost use Rattle.std.specs.Prelude.{◌≡◌, ℕ, ◌≤◌, Bool};
 ghost use Rattle.lines.specs.View.{lines_of};
-ghost use Rattle.records.specs.Guards.{wide};
-ghost use Rattle.text.specs.Fields.{not_plain, over_field, letter_field as the_letter_field, line_field as the_line_field, outside as the_outside, dormant as the_dormant, unfit as the_unfit, field_of};
-ghost use Rattle.text.specs.Reading.{placed as the_placed, found as the_found};
+ghost use Rattle.text.specs.Fields.{over_field, letter_field as the_letter_field, line_field as the_line_field, outside as the_outside, dormant as the_dormant, unfit as the_unfit, field_of};
+ghost use Rattle.text.specs.Reading.{found as the_found};
 
 use crate::stage::Refuted;
-use clause::refusal::{Fault, Refusal};
-use clause::syntax::{Clause, LitSet};
+use clause::refusal::Refusal;
+use clause::syntax::Clause;
 use lines::line::Line;
 use lines::places::line_at;
 use records::record::Record;
-
-fn is_not_plain(s: LitSet) -> bool
-    ensures { result ≡ not_plain s }
-{
-    s.plus >= 1048576 || s.minus >= 1048576
-}
-
-fn is_wide(s: LitSet) -> bool
-    ensures { result ≡ wide s }
-{
-    s.plus >= 1152921504606846976 || s.minus >= 1152921504606846976
-}
 
 // The first field of a given clause with a letter above 19.
 fn first_over(clause: Clause) -> u16
     ensures { result ≡ over_field clause }
 {
     match clause {
-        Clause::Global(s, _) | Clause::Eventuality(s, _) => if is_not_plain(s) { 2 } else { 3 },
+        Clause::Global(s, _) | Clause::Eventuality(s, _) => if s.over(19) { 2 } else { 3 },
         _ => 2,
     }
 }
@@ -41,7 +28,7 @@ fn letter_field(what: Record) -> u16
         Record::Give(c) => first_over(c),
         Record::WaitLiteral(_) => 2,
         Record::Resolve(_, _, _) => 4,
-        Record::Trial(now, _, _) => if is_wide(now) { 2 } else { 3 },
+        Record::Trial(now, _, _) => if now.over(59) { 2 } else { 3 },
         Record::OpenLoop(l, guards) => if l.letter > 19 { 2 } else { guards.over },
         _ => 0,
     }
@@ -99,12 +86,6 @@ pub(crate) fn refused_field(
         Refusal::WrongKind => line_field(what, |n| unfit(what, line_at(lines, n).clause)),
         _ => 0,
     }
-}
-
-pub(crate) fn placed(line: u16, field: u16, f: Fault) -> Fault
-    ensures { result ≡ the_placed line field f }
-{
-    Fault { line, field, ..f }
 }
 
 // The last refutation after an accepted record.

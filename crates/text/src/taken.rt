@@ -2,7 +2,7 @@ ghost use Rattle.std.specs.Prelude.{◌≡◌, ℕ, ◌<◌, length, Ok, OnOk};
 ghost use Rattle.text.specs.Calls.{view, LeadsOn};
 ghost use Rattle.text.specs.Reading.{Judged, LineRead};
 
-use crate::places::{found, placed, refused_field};
+use crate::places::{found, refused_field};
 use crate::stage::{Refuted, Stage};
 use crate::steps::step;
 use crate::text_lines::TextLine;
@@ -28,7 +28,7 @@ fn take_record(
         Ok(m) => (next, Ok(found(what, before, m))),
         Err(f) => {
             let field = refused_field(next.lines(table), next.first(), what, f.refusal);
-            (next, Err(placed(n, field, f)))
+            (next, Err(f.placed(n, field)))
         }
     }
 }
@@ -46,7 +46,7 @@ pub(crate) fn take_line(
     ensures some { OnOk result.1 (0 < length line.entry.bytes.now) }
 {
     match read_line(line.bytes, line.ended) {
-        Err(f) => (stage, Err(placed(line.number, f.field, f))),
+        Err(f) => (stage, Err(f.placed(line.number, f.field))),
         Ok(what) => take_record(what, line.number, stage, before, table, row),
     }
 }

@@ -1,5 +1,5 @@
 use Rattle.std.proofs.Common.{ap, ◌∙◌, arith}
-use Rattle.text.specs.Reading.{placed}
+use Rattle.clause.specs.Refusals.{placed}
 use Rattle.text.proofs.Endings.{finish_taking, finish_working, finish_looping}
 use Rattle.text.proofs.ends.finish.Goals as goal
 

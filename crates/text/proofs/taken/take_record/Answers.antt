@@ -1,8 +1,8 @@
 use Rattle.std.proofs.Common.{ℕ, List, Option, ap, ◌∙◌}
+use Rattle.clause.specs.Refusals.{placed}
 use Rattle.protocol.specs.State as model
 use Rattle.text.specs.Calls.{view}
 use Rattle.text.specs.Fields.{field_of}
-use Rattle.text.specs.Reading.{placed}
 use Rattle.text.proofs.Standings.{taken_err}
 use Rattle.text.proofs.taken.take_record.Goals as goal
 
