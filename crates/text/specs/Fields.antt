@@ -1,5 +1,5 @@
 -- The field that a call's refusal is about.
-use Rattle.std.specs.Prelude.{ℕ, Bool, true, false, cond, ◌&&◌, ◌||◌, List, length, Some, None, Option, ◌==◌, nat_le, nat_lt}
+use Rattle.std.specs.Prelude.{ℕ, Bool, true, false, cond, ◌&&◌, ◌||◌, List, length, Some, None, Option, ◌==◌, nat_lt}
 use Rattle.clause.specs.declared.refusal.Refusal.{Refusal}
 use Rattle.clause.specs.declared.refusal.Refusal.TheVariants.{LetterRange, NoSuchLine, NotInForce, WrongKind}
 use Rattle.clause.specs.declared.syntax.Clause.{Clause}
