@@ -67,13 +67,13 @@ pub ends_looping : (o : OpenLoop) (n : ℕ) (v : Found) (f : Fault) (t t' : List
 ends_looping o n v f t t' row h e = (left (stage_of o) (view_loop o t), ends (refl, ap Err e), h, tt)
 
 -- a line that was refused, and one that was not
-pub stops_by : (n : ℕ) (line : List ℕ) (e : Bool) (ls : List (List ℕ × Bool)) (v : Found) (s s' : model.State) (row row' : List ℕ) (r : Result Found Fault) (f : Fault) (t' : List Line)
-    → r ≡ Err f → LineRead n line e v s row r s' row' → Held (left s'.stage s') t' → Comes n ((line, e) ∷ ls) v s row (Err f) t' row'
-stops_by n line e ls v s s' row row' r f t' q h k = (left s'.stage s', stops s' (subst (λ (z : Result Found Fault). LineRead n line e v s row z s' row') q h) refl, k, tt)
+pub stops_by : (n : ℕ) (line : List ℕ) (e : Bool) (ls : List (List ℕ × Bool)) (v : Found) (s s' : model.State) (row row' : List ℕ) (f : Fault) (t' : List Line)
+    → LineRead n line e v s row (Err f) s' row' → Held (left s'.stage s') t' → Comes n ((line, e) ∷ ls) v s row (Err f) t' row'
+stops_by n line e ls v s s' row row' f t' q k = (left s'.stage s', stops s' q refl, k, tt)
 
-pub goes_by : (n : ℕ) (line : List ℕ) (e : Bool) (ls : List (List ℕ × Bool)) (v w : Found) (s s' : model.State) (row row' row'' : List ℕ) (r : Result Found Fault) (z : Result (Sealed × Verdict) Fault) (t'' : List Line)
-    → r ≡ Ok w → LineRead n line e v s row r s' row' → Comes (n + 1) ls w s' row' z t'' row'' → Comes n ((line, e) ∷ ls) v s row z t'' row''
-goes_by n line e ls v w s s' row row' row'' r z t'' q h k = (k.0, goes (subst (λ (y : Result Found Fault). LineRead n line e v s row y s' row') q h) k.1, k.2, k.3)
+pub goes_by : (n : ℕ) (line : List ℕ) (e : Bool) (ls : List (List ℕ × Bool)) (v w : Found) (s s' : model.State) (row row' row'' : List ℕ) (z : Result (Sealed × Verdict) Fault) (t'' : List Line)
+    → LineRead n line e v s row (Ok w) s' row' → Comes (n + 1) ls w s' row' z t'' row'' → Comes n ((line, e) ∷ ls) v s row z t'' row''
+goes_by n line e ls v w s s' row row' row'' z t'' q k = (k.0, goes q k.1, k.2, k.3)
 
 -- the same from a number, lines and a state that are equal
 pub comes_along : (n m : ℕ) (ls ms : List (List ℕ × Bool)) (v : Found) (s u : model.State) (row : List ℕ) (r : Result (Sealed × Verdict) Fault) (t' : List Line) (row' : List ℕ)

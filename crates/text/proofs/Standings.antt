@@ -1,10 +1,11 @@
--- Numbers of lines, and what is known of them.
-use Rattle.std.proofs.Common.{◌≡◌, ℕ, ◌≤◌, List, length, take, Ok, Err, Result, sym, ap, ◌∙◌, subst, arith}
+-- Numbers of lines, and records that are answered.
+use Rattle.std.proofs.Common.{◌≡◌, ℕ, ◌≤◌, List, length, take, Some, None, Ok, Err, Option, Result, refl, sym, ap, ◌∙◌, subst, arith}
 use Rattle.clause.specs.Refusals.{placed}
 use Rattle.std.proofs.lemmas.List.{length-map}
 use Rattle.clause.specs.declared.refusal.Fault.{Fault}
 use Rattle.protocol.specs.State as model
-use Rattle.protocol.specs.Calls.{number}
+use Rattle.protocol.specs.Calls.{Call, Answer, number, refused}
+use Rattle.protocol.specs.Answers.{Answered}
 use Rattle.lines.specs.declared.line.Line.{Line}
 use Rattle.lines.specs.View.{line_of, lines_of}
 use Rattle.case.proofs.Growing.{front_length}
@@ -12,7 +13,7 @@ use Rattle.text.specs.declared.stage.Stage.{Stage}
 use Rattle.text.specs.declared.stage.Stage.TheVariants.{Taking, Working, Looping}
 use Rattle.records.specs.declared.record.Record.{Record}
 use Rattle.records.specs.declared.record.Record.TheVariants.{Give, Seal, WaitLine, WaitLiteral, Resolve, Trial, OpenLoop, CloseLoop, Abandon, DrawFor, Draw, Refute}
-use Rattle.text.specs.Calls.{view, Step}
+use Rattle.text.specs.Calls.{view, call_of, answer, Did, Step}
 use Rattle.text.specs.Fields.{field_of}
 use Rattle.text.specs.Reading.{Found, found, Judged, first_of}
 
@@ -54,46 +55,26 @@ pub no_ok : {A : Type 0} {m : ℕ} {f : Fault} → ◌≡◌ {A = Result ℕ Fau
 no_ok e = let z : ◌≡◌ {A = ℕ} 0 1 = cc in absurd (omega arith)
 
 -- a refused record changes nothing
-refused_at : (st : model.Stage) (g : ℕ) (ls : List model.Line) (w : Record) (row row' : List ℕ) (e : Fault) (t : model.State) → Step (at st g ls) w row (Err e) t row' → t ≡ at st g ls
-refused_at model.intake g ls (Give c) row row' e t q = q.0.1
-refused_at model.intake g ls Seal row row' e t q = q.0.1
-refused_at model.intake g ls (WaitLine n) row row' e t q = q.1
-refused_at model.intake g ls (WaitLiteral l) row row' e t q = q.1
-refused_at model.intake g ls (Resolve a b k) row row' e t q = q.1
-refused_at model.intake g ls (Trial n x ns) row row' e t q = q.1
-refused_at model.intake g ls (OpenLoop l gs) row row' e t q = q.1
-refused_at model.intake g ls (CloseLoop ns) row row' e t q = q.1
-refused_at model.intake g ls Abandon row row' e t q = q.1
-refused_at model.intake g ls (DrawFor n m) row row' e t q = q.1
-refused_at model.intake g ls (Draw n) row row' e t q = q.1
-refused_at model.intake g ls (Refute n) row row' e t q = q.1
-refused_at model.sealed g ls (Give c) row row' e t q = q.1
-refused_at model.sealed g ls Seal row row' e t q = q.1
-refused_at model.sealed g ls (WaitLine n) row row' e t q = q.0.1
-refused_at model.sealed g ls (WaitLiteral l) row row' e t q = q.0.1
-refused_at model.sealed g ls (Resolve a b k) row row' e t q = q.0.1
-refused_at model.sealed g ls (Trial n x ns) row row' e t q = q.0.1
-refused_at model.sealed g ls (OpenLoop l gs) row row' e t q = q.0.1
-refused_at model.sealed g ls (CloseLoop ns) row row' e t q = q.1
-refused_at model.sealed g ls Abandon row row' e t q = q.1
-refused_at model.sealed g ls (DrawFor n m) row row' e t q = q.0.1
-refused_at model.sealed g ls (Draw n) row row' e t q = q.0.1
-refused_at model.sealed g ls (Refute n) row row' e t q = q.0.1
-refused_at (model.loop f d hs) g ls (Give c) row row' e t q = q.1
-refused_at (model.loop f d hs) g ls Seal row row' e t q = q.1
-refused_at (model.loop f d hs) g ls (WaitLine n) row row' e t q = q.1
-refused_at (model.loop f d hs) g ls (WaitLiteral l) row row' e t q = q.1
-refused_at (model.loop f d hs) g ls (Resolve a b k) row row' e t q = q.0.1
-refused_at (model.loop f d hs) g ls (Trial n x ns) row row' e t q = q.0.1
-refused_at (model.loop f d hs) g ls (OpenLoop l gs) row row' e t q = q.1
-refused_at (model.loop f d hs) g ls (CloseLoop ns) row row' e t q = q.0.1
-refused_at (model.loop f d hs) g ls Abandon row row' e t q = q.0.1
-refused_at (model.loop f d hs) g ls (DrawFor n m) row row' e t q = q.1
-refused_at (model.loop f d hs) g ls (Draw n) row row' e t q = q.1
-refused_at (model.loop f d hs) g ls (Refute n) row row' e t q = q.1
+answer_refused : (w : Record) (row : List ℕ) (e : Fault) → answer w row (Err e) ≡ refused e
+answer_refused (Give c) row e = refl
+answer_refused Seal row e = refl
+answer_refused (WaitLine n) row e = refl
+answer_refused (WaitLiteral l) row e = refl
+answer_refused (Resolve a b k) row e = refl
+answer_refused (Trial n x ns) row e = refl
+answer_refused (OpenLoop l gs) row e = refl
+answer_refused (CloseLoop ns) row e = refl
+answer_refused Abandon row e = refl
+answer_refused (DrawFor n m) row e = refl
+answer_refused (Draw n) row e = refl
+answer_refused (Refute n) row e = refl
+
+did_refused : (o : Option Call) (s t : model.State) (w : Record) (row row' : List ℕ) (e : Fault) → Did o s w row (Err e) t row' → t ≡ s
+did_refused None s t w row row' e q = q.1
+did_refused (Some c) s t w row row' e q = let a = subst (λ (z : Answer). Answered s c z t) (answer_refused w row' e) q.0 in a.1
 
 pub refused_same : (s : model.State) (w : Record) (row row' : List ℕ) (e : Fault) (t : model.State) → Step s w row (Err e) t row' → t ≡ s
-refused_same s w row row' e t q = refused_at s.stage s.given s.lines w row row' e t q
+refused_same s w row row' e t q = did_refused (call_of s.stage w row) s t w row row' e q
 
 -- an accepted record, as code has it
 pub taken_ok : (s s' : model.State) (w : Record) (row row' : List ℕ) (n : ℕ) (v x : Found) (a : Result ℕ Fault) (m : ℕ) → a ≡ Ok m → Step s w row a s' row' → x ≡ found w v m → Judged n (Ok w) v s row (Ok x) s' row'

@@ -13,6 +13,7 @@ use Rattle.forms.specs.Cuts.{split}
 use Rattle.records.specs.declared.record.Record.{Record}
 use Rattle.records.specs.declared.record.Record.TheVariants.{Give, Seal, WaitLine, WaitLiteral, Resolve, Trial, OpenLoop, CloseLoop, Abandon, DrawFor, Draw, Refute}
 use Rattle.records.specs.Records.{record_of}
+use Rattle.text.specs.declared.reading.Reading.{Reading}
 use Rattle.text.specs.declared.stage.Refuted.{Refuted}
 use Rattle.text.specs.declared.stage.Verdict.{Verdict}
 use Rattle.text.specs.declared.stage.Verdict.TheVariants.{Open, Contradiction}
@@ -50,6 +51,15 @@ told n s k v (Err f) = Err (placed n (field_of s.lines (first_of s.stage) k f.re
 abbrev pub Judged : ℕ → Result Record Fault → Found → model.State → List ℕ → Result Found Fault → model.State → List ℕ → Type 0
 Judged n (Err f) v s row r s' row' = (r ≡ Err (placed n f.field f)) × (s' ≡ s) × (row' ≡ row)
 Judged n (Ok k) v s row r s' row' = (a : Result ℕ Fault) × Step s k row a s' row' × (r ≡ told n s k v a)
+
+-- what a text has come to after a line, accepted or refused, and what that line tells
+abbrev pub reached : Result Reading (Reading × Fault) → Reading
+reached (Ok p) = p
+reached (Err q) = q.0
+
+abbrev pub known : Result Reading (Reading × Fault) → Result Found Fault
+known (Ok p) = Ok p.found
+known (Err q) = Err q.1
 
 -- line n of a text, without its end, and whether that is there
 abbrev pub LineRead : ℕ → List ℕ → Bool → Found → model.State → List ℕ → Result Found Fault → model.State → List ℕ → Type 0

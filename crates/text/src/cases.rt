@@ -4,9 +4,8 @@ ghost use Rattle.case.specs.View.{view_sealed};
 ghost use Rattle.text.specs.Promise.{Promised, Agrees, NoRun, givens};
 ghost use Rattle.text.specs.Reading.{lines, Comes, TextRead};
 
-use crate::ends::{finish, leave};
+use crate::reading::Reading;
 use crate::stage::{Stage, Verdict};
-use crate::taken::take_line;
 use crate::text_lines::{TextLines, check_length};
 use case::stage::{Intake, Sealed};
 use clause::refusal::{Fault, Refusal};
@@ -24,21 +23,22 @@ fn read_lines(
     let Ok(i) = Intake::new(table) else {
         unreachable()
     };
-    let mut stage = Stage::Taking(i);
-    let mut found = None;
+    let mut reading = Reading {
+        stage: Stage::Taking(i),
+        found: None,
+    };
     let mut rest = TextLines::of(text);
     while let Some(line) = rest.next() {
-        let (next, answer) = take_line(line, stage, found, table, row);
-        stage = next;
-        match answer {
-            Ok(known) => found = known,
-            Err(f) => {
-                leave(stage, table);
+        match reading.take(line, table, row) {
+            Ok(next) => reading = next,
+            Err(refused) => {
+                let (last, f) = refused;
+                last.leave(table);
                 return Err(f);
             }
         }
     }
-    finish(stage, found, rest.number, table)
+    reading.finish(rest.number, table)
 }
 
 // A case text, into a table of 1,000 places and a row of 200 numbers: the sealed case and its verdict.

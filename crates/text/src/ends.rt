@@ -3,6 +3,7 @@ ghost use Rattle.case.specs.View.{view_loop, stage_of};
 ghost use Rattle.text.specs.Calls.{view, LedTo};
 ghost use Rattle.text.specs.Reading.{Held, left, Comes, verdict as the_verdict};
 
+use crate::reading::Reading;
 use crate::stage::{Refuted, Stage, Verdict};
 use case::stage::{OpenLoop, Sealed};
 use clause::refusal::{Fault, Refusal};
@@ -21,18 +22,6 @@ fn give_up(o: OpenLoop, table: &mut [Line; 1000])
     }
 }
 
-// Ends the case of a refused text.
-pub(crate) fn leave(stage: Stage, table: &mut [Line; 1000])
-    requires { LedTo (view stage table.old) table.old }
-    ensures { Held (left (view stage table.old).stage (view stage table.old)) table.new }
-{
-    match stage {
-        Stage::Taking(_i) => (),
-        Stage::Working(_s) => (),
-        Stage::Looping(o) => give_up(o, table),
-    }
-}
-
 fn verdict(found: Option<Refuted>, last: u16) -> Verdict
     ensures { result ≡ the_verdict found last }
 {
@@ -42,28 +31,38 @@ fn verdict(found: Option<Refuted>, last: u16) -> Verdict
     }
 }
 
-// The end of a text before line n: one in intake is sealed, one in an open loop is refused.
-pub(crate) fn finish(
-    stage: Stage,
-    found: Option<Refuted>,
-    n: u16,
-    table: &mut [Line; 1000],
-) -> Result<(Sealed, Verdict), Fault>
-    requires { LedTo (view stage table.old) table.old }
-    ensures { (row : List ℕ) → Comes n [] found (view stage table.old) row result table.new row }
-{
-    match stage {
-        Stage::Taking(i) => {
-            let (s, last) = i.seal();
-            Ok((s, verdict(found, last)))
+impl Reading {
+    // Ends the case of a refused text.
+    pub(crate) fn leave(self, table: &mut [Line; 1000])
+        requires { LedTo (view self.stage table.old) table.old }
+        ensures { Held (left (view self.stage table.old).stage (view self.stage table.old)) table.new }
+    {
+        let Reading { stage, found: _ } = self;
+        match stage {
+            Stage::Taking(_) | Stage::Working(_) => (),
+            Stage::Looping(o) => give_up(o, table),
         }
-        Stage::Working(s) => {
-            let last = s.last();
-            Ok((s, verdict(found, last)))
-        }
-        Stage::Looping(o) => {
-            give_up(o, table);
-            Err(Fault::of(Refusal::WrongState).placed(n, 0))
+    }
+
+    // The end of a text before line n: one in intake is sealed, one in an open loop is refused.
+    pub(crate) fn finish(self, n: u16, table: &mut [Line; 1000]) -> Result<(Sealed, Verdict), Fault>
+        requires { LedTo (view self.stage table.old) table.old }
+        ensures { (row : List ℕ) → Comes n [] self.found (view self.stage table.old) row result table.new row }
+    {
+        let Reading { stage, found } = self;
+        match stage {
+            Stage::Taking(i) => {
+                let (s, last) = i.seal();
+                Ok((s, verdict(found, last)))
+            }
+            Stage::Working(s) => {
+                let last = s.last();
+                Ok((s, verdict(found, last)))
+            }
+            Stage::Looping(o) => {
+                give_up(o, table);
+                Err(Fault::of(Refusal::WrongState).placed(n, 0))
+            }
         }
     }
 }

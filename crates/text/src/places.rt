@@ -89,7 +89,7 @@ pub(crate) fn refused_field(
 }
 
 // The last refutation after an accepted record.
-pub(crate) fn found(what: Record, before: Option<Refuted>, count: u16) -> Option<Refuted>
+pub(crate) fn found_after(what: Record, before: Option<Refuted>, count: u16) -> Option<Refuted>
     ensures { result ≡ the_found what before count }
 {
     match what {

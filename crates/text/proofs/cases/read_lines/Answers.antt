@@ -4,7 +4,7 @@ use Rattle.case.specs.View.{view_intake}
 use Rattle.text.specs.declared.text_lines.TextLines.{TextLines}
 use Rattle.text.specs.Calls.{view}
 use Rattle.text.specs.Reading.{lines}
-use Rattle.text.proofs.Endings.{made_is, stops_by, goes_by, comes_along}
+use Rattle.text.proofs.Endings.{stops_by, goes_by, comes_along}
 use Rattle.text.proofs.cases.read_lines.Goals as goal
 
 pub loop-line-init : goal.loop-line-init
@@ -18,32 +18,32 @@ loop-line-init c =
     }
 
 pub leave-requires : goal.leave-requires
-leave-requires c = let k = c.loop-line.invariant.led in c.take_line-next.ensures.onward k.0 k.1
+leave-requires c = let k = c.loop-line.invariant.led in let q = c.in-Err.ensures in q.onward k.0 k.1
 
 pub returns-in-Err : goal.returns-in-Err
 returns-in-Err c =
-    let l = c.loop-line in let q = c.take_line-next in let line = c.in-Some.line in let w = c.in-Some.ensures in let later = lines c.next.new.self.rest.now in
-    let s = view l.stage l.table in
-    l.invariant.onward (Err c.in-Err.f) c.leave.new.table q.new.row
-    (comes_along line.number l.rest.number ((line.bytes.now, line.ended) ∷ later) (lines l.rest.rest.now) l.found s s l.row (Err c.in-Err.f) c.leave.new.table q.new.row w.steps.number (sym w.steps.front) refl
-    (stops_by line.number line.bytes.now line.ended later l.found s (view q.result.0 q.new.table) l.row q.new.row q.result.1 c.in-Err.f c.leave.new.table c.in-Err.is q.ensures.exact c.leave.ensures))
+    let l = c.loop-line in let q = c.in-Err.ensures in let line = c.in-Some.line in let w = c.in-Some.ensures in let later = lines c.next.new.self.rest.now in
+    let s = view l.reading.stage l.table in let row = c.take.new.row in
+    l.invariant.onward (Err c.in-Err.refused.1) c.leave.new.table row
+    (comes_along line.number l.rest.number ((line.bytes.now, line.ended) ∷ later) (lines l.rest.rest.now) l.reading.found s s l.row (Err c.in-Err.refused.1) c.leave.new.table row w.steps.number (sym w.steps.front) refl
+    (stops_by line.number line.bytes.now line.ended later l.reading.found s (view c.in-Err.refused.0.stage c.take.new.table) l.row row c.in-Err.refused.1 c.leave.new.table q.exact c.leave.ensures))
 
 pub loop-line-preserved : goal.loop-line-preserved
 loop-line-preserved c =
-    let l = c.loop-line in let q = c.take_line-next in let line = c.in-Some.line in let w = c.in-Some.ensures in let later = c.next.new.self in
-    let s = view l.stage l.table in let s' = view q.result.0 q.new.table in
-    let some = made_is q.result.1 (λ _. 0 < length line.bytes.now) c.in-Ok-answer.known c.in-Ok-answer.is q.ensures.some in
+    let l = c.loop-line in let a = c.in-Ok-take in let q = a.ensures in let line = c.in-Some.line in let w = c.in-Some.ensures in let later = c.next.new.self in
+    let s = view l.reading.stage l.table in let s' = view a.next.stage c.take.new.table in
+    let some : 0 < length line.bytes.now = q.some in
     let counted = l.invariant.counted (omega (arith, w.steps.fewer)) in
     let few = l.invariant.few in
     let number : later.number ≡ line.number + 1 = w.steps.next_number (omega (arith, few)) ∙ ap (λ n. n + 1) (sym w.steps.number) in
     record {
       counted = λ h. let parted = w.steps.parted h in omega (arith, parted, some, counted, number, w.steps.number);
       few = omega (arith, counted, number, w.steps.number, w.steps.fewer, c.requires);
-      led = q.ensures.onward l.invariant.led.0 l.invariant.led.1;
+      led = q.onward l.invariant.led.0 l.invariant.led.1;
       onward = λ r t row h. l.invariant.onward r t row
-          (comes_along line.number l.rest.number ((line.bytes.now, line.ended) ∷ lines later.rest.now) (lines l.rest.rest.now) l.found s s l.row r t row w.steps.number (sym w.steps.front) refl
-          (goes_by line.number line.bytes.now line.ended (lines later.rest.now) l.found c.in-Ok-answer.known s s' l.row q.new.row row q.result.1 r t c.in-Ok-answer.is q.ensures.exact
-          (comes_along later.number (line.number + 1) (lines later.rest.now) (lines later.rest.now) c.in-Ok-answer.known s' s' q.new.row r t row number refl refl h)));
+          (comes_along line.number l.rest.number ((line.bytes.now, line.ended) ∷ lines later.rest.now) (lines l.rest.rest.now) l.reading.found s s l.row r t row w.steps.number (sym w.steps.front) refl
+          (goes_by line.number line.bytes.now line.ended (lines later.rest.now) l.reading.found a.next.found s s' l.row c.take.new.row row r t q.exact
+          (comes_along later.number (line.number + 1) (lines later.rest.now) (lines later.rest.now) a.next.found s' s' c.take.new.row r t row number refl refl h)));
     }
 
 pub finish-requires : goal.finish-requires
@@ -51,6 +51,6 @@ finish-requires c = c.loop-line.invariant.led
 
 pub returns : goal.returns
 returns c =
-    let l = c.loop-line in let w = c.in_default-next.ensures in let s = view l.stage l.table in
+    let l = c.loop-line in let w = c.in_default-next.ensures in let s = view l.reading.stage l.table in
     l.invariant.onward c.finish.result c.finish.new.table l.row
-    (comes_along c.next.new.self.number l.rest.number [] (lines l.rest.rest.now) l.found s s l.row c.finish.result c.finish.new.table l.row (ap (λ (z : TextLines). z.number) w.steps.1) (sym w.steps.0) refl (c.finish.ensures l.row))
+    (comes_along c.next.new.self.number l.rest.number [] (lines l.rest.rest.now) l.reading.found s s l.row c.finish.result c.finish.new.table l.row (ap (λ (z : TextLines). z.number) w.steps.1) (sym w.steps.0) refl (c.finish.ensures l.row))

@@ -13,6 +13,6 @@ abbrev pub invariant-loop-line : goal.invariant-loop-line
 invariant-loop-line l = record {
   counted : 0 < length l.rest.rest.now → 2 * l.rest.number + length l.rest.rest.now ≤ length l.text + 2;
   few : l.rest.number ≤ 32770;
-  led : LedTo (view l.stage l.table) l.table;
-  onward : (r : Result (Sealed × Verdict) Fault) (t : List Line) (row : List ℕ) → Comes l.rest.number (lines l.rest.rest.now) l.found (view l.stage l.table) l.row r t row → Comes 1 (lines l.text) None fresh l.initial.row r t row;
+  led : LedTo (view l.reading.stage l.table) l.table;
+  onward : (r : Result (Sealed × Verdict) Fault) (t : List Line) (row : List ℕ) → Comes l.rest.number (lines l.rest.rest.now) l.reading.found (view l.reading.stage l.table) l.row r t row → Comes 1 (lines l.text) None fresh l.initial.row r t row;
 }
