@@ -1,5 +1,5 @@
 -- A run that is kept.
-use Rattle.std.proofs.Common.{◌≡◌, ℕ, ◌≤◌, List, length, IfOk, Ok, Err, Result, sym, refl, subst, ⊎_elim, arith}
+use Rattle.std.proofs.Common.{◌≡◌, ℕ, ◌≤◌, List, length, IfOk, Ok, Err, Result, sym, subst, ⊎_elim, arith}
 use Rattle.std.proofs.lemmas.Bool.{cases_eq}
 use Rattle.clause.specs.declared.refusal.Fault.{Fault}
 use Rattle.clause.specs.declared.syntax.Clause.{Clause}
@@ -10,11 +10,10 @@ use Rattle.case.specs.View.{view_sealed}
 use Rattle.case.specs.Verdict.{Shown}
 use Rattle.text.specs.declared.stage.Verdict.{Verdict}
 use Rattle.text.specs.declared.stage.Verdict.TheVariants.{Open, Contradiction}
-use Rattle.text.specs.Reading.{TextRead}
 use Rattle.text.specs.Promise.{Agrees, NoRun}
 use Rattle.runtext.specs.declared.stage.TextRun.{TextRun}
 use Rattle.runtext.specs.Reading.{run_of, RunRead}
-use Rattle.runtext.specs.Judging.{Showing, ShownText, RunJudgedBy, BothRead, KeptBy, NotContradiction}
+use Rattle.runtext.specs.Judging.{Showing, ShownText, KeptBy, NotContradiction}
 
 no_err : {A : Type 0} (p : ℕ × ℕ) (f : Fault) → ◌≡◌ {A = Result (ℕ × ℕ) Fault} (Ok p) (Err f) → A
 no_err p f e = let z : ◌≡◌ {A = ℕ} 0 1 = cc in absurd (omega arith)
@@ -42,11 +41,3 @@ apart_by cs text p (Contradiction n count) h k = h (run_of k.0).run k.3
 pub never_both : (cs : List Clause) (text : List ℕ) (r : Result (ℕ × ℕ) Fault) → IfOk r (KeptBy cs text) → (x : Verdict) → NoRun cs x → IfOk r (λ _. NotContradiction x)
 never_both cs text (Ok p) k x h = apart_by cs text p x h k
 never_both cs text (Err f) k x h = tt
-
-pub both_ok : (a : Result (Sealed × Verdict) Fault) (p : Sealed × Verdict) (case_text run_text : List ℕ) (t : List Line) (row : List ℕ) (r : Result (ℕ × ℕ) Fault) (t' : List Line) (row' : List ℕ)
-    → a ≡ Ok p → TextRead case_text t row a t' row' → ShownText run_text p.0 t' r → BothRead case_text run_text t row r t' row'
-both_ok a p case_text run_text t row r t' row' e q h = (a, q, subst (λ (z : Result (Sealed × Verdict) Fault). RunJudgedBy z run_text t' r) (sym e) h)
-
-pub both_err : (a : Result (Sealed × Verdict) Fault) (f : Fault) (case_text run_text : List ℕ) (t : List Line) (row : List ℕ) (t' : List Line) (row' : List ℕ)
-    → a ≡ Err f → TextRead case_text t row a t' row' → BothRead case_text run_text t row (Err f) t' row'
-both_err a f case_text run_text t row t' row' e q = (a, q, subst (λ (z : Result (Sealed × Verdict) Fault). RunJudgedBy z run_text t' (Err f)) (sym e) refl)

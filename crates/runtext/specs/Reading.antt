@@ -2,13 +2,13 @@
 use Rattle.std.specs.Prelude.{◌≡◌, ℕ, ◌+◌, Bool, cond, List, [], ◌∷◌, length, Ok, Err, MatchBool, Result, ◌==◌, nat_le}
 use Rattle.clause.specs.declared.refusal.Fault.{Fault}
 use Rattle.clause.specs.declared.refusal.Refusal.TheVariants.{TextTooLong, TextEmpty, WrongState}
-use Rattle.clause.specs.Refusals.{plain}
+use Rattle.clause.specs.Refusals.{plain, placed}
 use Rattle.runs.specs.Source.{Source}
 use Rattle.runs.specs.Table as table
 use Rattle.runs.specs.Times as times
 use Rattle.records.specs.declared.record.RunRecord.{RunRecord}
 use Rattle.records.specs.RunRecords.{run_record_of}
-use Rattle.text.specs.Reading.{lines, placed}
+use Rattle.text.specs.Reading.{lines}
 use Rattle.runtext.specs.declared.stage.RunStage.{RunStage}
 use Rattle.runtext.specs.declared.stage.RunStage.TheVariants.{Start, Telling, Timing}
 use Rattle.runtext.specs.declared.stage.TextRun.{TextRun}

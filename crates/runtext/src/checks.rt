@@ -17,6 +17,7 @@ use text::cases::read_case;
 pub fn show_run(case: &Sealed, table: &[Line], run: TextRun) -> Result<(u16, u16), Fault>
     ensures { Shown (run_of run) result case.now table.now }
 {
+    // Each telling is a source already: two arms here, and two in each of three methods for a source of both.
     match run {
         TextRun::Worlds(w) => case.show(table, &w),
         TextRun::Times(t) => case.show(table, &t),
@@ -27,10 +28,8 @@ pub fn show_run(case: &Sealed, table: &[Line], run: TextRun) -> Result<(u16, u16
 pub fn show_text(case: &Sealed, table: &[Line], text: &[u8]) -> Result<(u16, u16), Fault>
     ensures { ShownText text.now case.now table.now result }
 {
-    match read_run(text) {
-        Ok(run) => show_run(case, table, run),
-        Err(f) => Err(f),
-    }
+    let run = read_run(text)?;
+    show_run(case, table, run)
 }
 
 // A case text, and then a run text: the lead-in and the loop of a run that keeps every clause given in the case text.
@@ -44,11 +43,6 @@ pub fn check_run(
     ensures kept { IfOk result (KeptBy (givens (lines case_text.now)) run_text.now) }
     ensures apart { (x : TheVerdict) → NoRun (givens (lines case_text.now)) x → OnOk result (NotContradiction x) }
 {
-    match read_case(case_text, table, row) {
-        Ok(accepted) => {
-            let (case, _verdict) = accepted;
-            show_text(&case, table, run_text)
-        }
-        Err(f) => Err(f),
-    }
+    let (case, _verdict) = read_case(case_text, table, row)?;
+    show_text(&case, table, run_text)
 }

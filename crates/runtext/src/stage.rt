@@ -5,7 +5,7 @@ use runs::timetable::Timetable;
 #[derive(Clone, Copy)]
 pub enum RunStage {
     Start,
-    Telling(WorldTable, u16),
+    Telling { table: WorldTable, told: u16 },
     Timing(Timetable),
 }
 

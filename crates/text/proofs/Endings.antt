@@ -1,18 +1,16 @@
 -- Lines of a text, and what reading them comes to.
-use Rattle.std.proofs.Common.{◌≡◌, ℕ, ◌+◌, ◌<◌, ◌≤◌, Bool, true, false, List, [], ◌∷◌, length, IfOk, None, Ok, Err, Result, sym, refl, ap, ◌∙◌, subst, arith}
-use Rattle.std.proofs.lemmas.Bool.{cond-false, ne_eqb, eq-eqb, lt-leb}
+use Rattle.std.proofs.Common.{◌≡◌, ℕ, ◌+◌, ◌<◌, ◌≤◌, Bool, true, false, List, [], ◌∷◌, length, IfOk, None, Ok, Err, Result, sym, refl, ap, ◌∙◌, subst, ⊎_elim, arith}
+use Rattle.std.proofs.lemmas.Bool.{cond-false, ne_eqb, eq-eqb, lt-leb, le-leb}
 use Rattle.clause.specs.declared.refusal.Fault.{Fault}
 use Rattle.clause.specs.declared.refusal.Refusal.TheVariants.{UnknownKey, WrongState}
-use Rattle.clause.specs.Refusals.{plain}
+use Rattle.clause.specs.Refusals.{plain, placed}
 use Rattle.protocol.specs.State as model
-use Rattle.protocol.specs.Calls.{abandon}
 use Rattle.lines.specs.declared.line.Line.{Line}
 use Rattle.case.specs.declared.stage.Intake.{Intake}
 use Rattle.case.specs.declared.stage.Sealed.{Sealed}
 use Rattle.case.specs.declared.stage.OpenLoop.{OpenLoop}
 use Rattle.case.specs.View.{view_intake, view_sealed, view_loop, stage_of}
 use Rattle.case.specs.Calling.{SealedAs}
-use Rattle.case.specs.Looping.{Turned}
 use Rattle.forms.specs.Cuts.{split}
 use Rattle.forms.proofs.Splits.{split_some}
 use Rattle.records.specs.declared.record.Record.{Record}
@@ -20,11 +18,11 @@ use Rattle.records.specs.Fields.{misread}
 use Rattle.records.specs.Records.{record_of}
 use Rattle.text.specs.declared.stage.Stage.{Stage}
 use Rattle.text.specs.declared.stage.Stage.TheVariants.{Taking, Working, Looping}
-use Rattle.text.specs.declared.stage.Standing.{Standing}
 use Rattle.text.specs.declared.stage.Verdict.{Verdict}
 use Rattle.text.specs.Calls.{view, LedTo}
-use Rattle.text.specs.Reading.{Found, ends, stops, goes, placed, verdict, lines, lines_in, LineRead, left, Held, Knows, Comes, found_in, TextRead}
-use Rattle.text.proofs.Standings.{view_lines, same_number}
+use Rattle.text.specs.Reading.{Found, ends, stops, goes, verdict, lines, lines_in, LineRead, left, Held, Comes, TextRead}
+use Rattle.text.specs.Texts.{LengthChecked}
+use Rattle.text.proofs.Standings.{view_last, view_lines, same_number}
 
 -- an empty line has an unknown key
 pub some_line : (line : List ℕ) (e : Bool) (k : Record) → Ok k ≡ record_of line e → 0 < length line
@@ -56,53 +54,40 @@ lines_none (x ∷ xs) h = absurd (omega arith)
 pub held_view : (st : Stage) (t : List Line) → length t ≡ 1000 → LedTo (view st t) t → Held (view st t) t
 held_view st t long led = (view_lines st t long, led.1.blank)
 
--- an abandoned loop
-given_up_ok : (o : OpenLoop) (d : Sealed × ℕ) (t t' : List Line) → length t ≡ 1000 → length t' ≡ 1000 → Turned view_loop view_sealed abandon (Ok d) o t t' → LedTo (view_loop o t) t → Held (left (stage_of o) (view_loop o t)) t'
-given_up_ok o d t t' long long' q led =
-    let a = q.right long in
-    subst (λ (z : model.State). Held z t') a.1.1 (held_view (Working d.0) t' long' (_, q.onward long led.0 led.1))
-
-pub given_up : (o : OpenLoop) (r : Result (Sealed × ℕ) (OpenLoop × Fault)) (d : Sealed × ℕ) (t t' : List Line) → length t ≡ 1000 → length t' ≡ 1000 → r ≡ Ok d → Turned view_loop view_sealed abandon r o t t' → LedTo (view_loop o t) t
-    → Held (left (stage_of o) (view_loop o t)) t'
-given_up o r d t t' long long' e q led = given_up_ok o d t t' long long' (subst (λ (z : Result (Sealed × ℕ) (OpenLoop × Fault)). Turned view_loop view_sealed abandon z o t t') e q) led
-
-pub abandoned : (o : OpenLoop) (r : Result (Sealed × ℕ) (OpenLoop × Fault)) (d : OpenLoop × Fault) (t t' : List Line) → length t ≡ 1000 → r ≡ Err d → Turned view_loop view_sealed abandon r o t t' → ⊥
-abandoned o r d t t' long e q = ((subst (λ (z : Result (Sealed × ℕ) (OpenLoop × Fault)). Turned view_loop view_sealed abandon z o t t') e q).right long).0
-
 -- the end of a text
 pub ends_taking : (i : Intake) (s : Sealed) (j n : ℕ) (v : Found) (x : Verdict) (t : List Line) (row : List ℕ) → length t ≡ 1000 → SealedAs i t s j → LedTo (view_intake i t) t → x ≡ verdict v j → Comes n [] v (view_intake i t) row (Ok (s, x)) t row
 ends_taking i s j n v x t row long q led e =
     let a = q.exact long in
     (view_sealed s t, ends (a.1.1, ap Ok (e ∙ ap (verdict v) (same_number j _ a.1.0 ∙ ap (λ (z : model.State). model.last z) (sym a.1.1)))), held_view (Working s) t long (_, q.onward long led.0 led.1), refl)
 
-pub ends_working : (s : Sealed) (n : ℕ) (p : Standing) (v : Found) (x : Verdict) (t : List Line) (row : List ℕ) → length t ≡ 1000 → Knows p (view_sealed s t) → LedTo (view_sealed s t) t → x ≡ verdict v p.last → Comes n [] v (view_sealed s t) row (Ok (s, x)) t row
-ends_working s n p v x t row long kn led e = (view_sealed s t, ends (refl, ap Ok (e ∙ ap (verdict v) kn.0)), held_view (Working s) t long led, refl)
+pub ends_working : (s : Sealed) (j n : ℕ) (v : Found) (x : Verdict) (t : List Line) (row : List ℕ) → length t ≡ 1000 → j ≡ s.body.last → LedTo (view_sealed s t) t → x ≡ verdict v j → Comes n [] v (view_sealed s t) row (Ok (s, x)) t row
+ends_working s j n v x t row long e led w = (view_sealed s t, ends (refl, ap Ok (w ∙ ap (verdict v) (e ∙ sym (view_last (Working s) t long)))), held_view (Working s) t long led, refl)
 
 pub ends_looping : (o : OpenLoop) (n : ℕ) (v : Found) (f : Fault) (t t' : List Line) (row : List ℕ) → Held (left (stage_of o) (view_loop o t)) t' → f ≡ placed n 0 (plain WrongState) → Comes n [] v (view_loop o t) row (Err f) t' row
 ends_looping o n v f t t' row h e = (left (stage_of o) (view_loop o t), ends (refl, ap Err e), h, tt)
 
 -- a line that was refused, and one that was not
-pub stops_by : (n : ℕ) (line : List ℕ) (e : Bool) (ls : List (List ℕ × Bool)) (v : Found) (s s' : model.State) (row row' : List ℕ) (r : Result (Standing × Found) Fault) (f : Fault) (t' : List Line)
-    → r ≡ Err f → LineRead n line e v s row (found_in r) s' row' → Held (left s'.stage s') t' → Comes n ((line, e) ∷ ls) v s row (Err f) t' row'
-stops_by n line e ls v s s' row row' r f t' q h k = (left s'.stage s', stops s' (subst (λ (z : Result (Standing × Found) Fault). LineRead n line e v s row (found_in z) s' row') q h) refl, k, tt)
+pub stops_by : (n : ℕ) (line : List ℕ) (e : Bool) (ls : List (List ℕ × Bool)) (v : Found) (s s' : model.State) (row row' : List ℕ) (f : Fault) (t' : List Line)
+    → LineRead n line e v s row (Err f) s' row' → Held (left s'.stage s') t' → Comes n ((line, e) ∷ ls) v s row (Err f) t' row'
+stops_by n line e ls v s s' row row' f t' q k = (left s'.stage s', stops s' q refl, k, tt)
 
-pub goes_by : (n : ℕ) (line : List ℕ) (e : Bool) (ls : List (List ℕ × Bool)) (v : Found) (p : Standing × Found) (s s' : model.State) (row row' row'' : List ℕ) (r : Result (Standing × Found) Fault) (z : Result (Sealed × Verdict) Fault) (t'' : List Line)
-    → r ≡ Ok p → LineRead n line e v s row (found_in r) s' row' → Comes (n + 1) ls p.1 s' row' z t'' row'' → Comes n ((line, e) ∷ ls) v s row z t'' row''
-goes_by n line e ls v p s s' row row' row'' r z t'' q h k = (k.0, goes (subst (λ (y : Result (Standing × Found) Fault). LineRead n line e v s row (found_in y) s' row') q h) k.1, k.2, k.3)
+pub goes_by : (n : ℕ) (line : List ℕ) (e : Bool) (ls : List (List ℕ × Bool)) (v w : Found) (s s' : model.State) (row row' row'' : List ℕ) (z : Result (Sealed × Verdict) Fault) (t'' : List Line)
+    → LineRead n line e v s row (Ok w) s' row' → Comes (n + 1) ls w s' row' z t'' row'' → Comes n ((line, e) ∷ ls) v s row z t'' row''
+goes_by n line e ls v w s s' row row' row'' z t'' q k = (k.0, goes q k.1, k.2, k.3)
+
+-- the same from a number, lines and a state that are equal
+pub comes_along : (n m : ℕ) (ls ms : List (List ℕ × Bool)) (v : Found) (s u : model.State) (row : List ℕ) (r : Result (Sealed × Verdict) Fault) (t' : List Line) (row' : List ℕ)
+    → n ≡ m → ls ≡ ms → s ≡ u → Comes n ls v s row r t' row' → Comes m ms v u row r t' row'
+comes_along n m ls ms v s u row r t' row' a b e h =
+    subst (λ (z : ℕ). Comes z ms v u row r t' row') a (subst (λ (z : List (List ℕ × Bool)). Comes n z v u row r t' row') b (subst (λ (z : model.State). Comes n ls v z row r t' row') e h))
 
 -- the same of a stage that is known
-pub leave_taking : (st : Stage) (i : Intake) (t : List Line) → st ≡ Taking i → length t ≡ 1000 → LedTo (view st t) t → Held (left (view st t).stage (view st t)) t
-leave_taking st i t e long led = subst (λ (z : Stage). Held (left (view z t).stage (view z t)) t) (sym e) (held_view (Taking i) t long (subst (λ (z : Stage). LedTo (view z t) t) e led))
-
-pub leave_working : (st : Stage) (s : Sealed) (t : List Line) → st ≡ Working s → length t ≡ 1000 → LedTo (view st t) t → Held (left (view st t).stage (view st t)) t
-leave_working st s t e long led = subst (λ (z : Stage). Held (left (view z t).stage (view z t)) t) (sym e) (held_view (Working s) t long (subst (λ (z : Stage). LedTo (view z t) t) e led))
-
 pub finish_taking : (st : Stage) (i : Intake) (s : Sealed) (j n : ℕ) (v : Found) (x : Verdict) (t : List Line) (row : List ℕ) → st ≡ Taking i → length t ≡ 1000 → SealedAs i t s j → LedTo (view st t) t → x ≡ verdict v j → Comes n [] v (view st t) row (Ok (s, x)) t row
 finish_taking st i s j n v x t row e long q led w = subst (λ (z : Stage). Comes n [] v (view z t) row (Ok (s, x)) t row) (sym e) (ends_taking i s j n v x t row long q (subst (λ (z : Stage). LedTo (view z t) t) e led) w)
 
-pub finish_working : (st : Stage) (s : Sealed) (n : ℕ) (p : Standing) (v : Found) (x : Verdict) (t : List Line) (row : List ℕ) → st ≡ Working s → length t ≡ 1000 → Knows p (view st t) → LedTo (view st t) t → x ≡ verdict v p.last → Comes n [] v (view st t) row (Ok (s, x)) t row
-finish_working st s n p v x t row e long kn led w =
-    subst (λ (z : Stage). Comes n [] v (view z t) row (Ok (s, x)) t row) (sym e) (ends_working s n p v x t row long (subst (λ (z : Stage). Knows p (view z t)) e kn) (subst (λ (z : Stage). LedTo (view z t) t) e led) w)
+pub finish_working : (st : Stage) (s : Sealed) (j n : ℕ) (v : Found) (x : Verdict) (t : List Line) (row : List ℕ) → st ≡ Working s → length t ≡ 1000 → j ≡ s.body.last → LedTo (view st t) t → x ≡ verdict v j → Comes n [] v (view st t) row (Ok (s, x)) t row
+finish_working st s j n v x t row e long last led w =
+    subst (λ (z : Stage). Comes n [] v (view z t) row (Ok (s, x)) t row) (sym e) (ends_working s j n v x t row long last (subst (λ (z : Stage). LedTo (view z t) t) e led) w)
 
 pub finish_looping : (st : Stage) (o : OpenLoop) (n : ℕ) (v : Found) (f : Fault) (t t' : List Line) (row : List ℕ) → st ≡ Looping o → Held (left (stage_of o) (view_loop o t)) t' → f ≡ placed n 0 (plain WrongState) → Comes n [] v (view st t) row (Err f) t' row
 finish_looping st o n v f t t' row e h w = subst (λ (z : Stage). Comes n [] v (view z t) row (Err f) t' row) (sym e) (ends_looping o n v f t t' row h w)
@@ -111,6 +96,14 @@ finish_looping st o n v f t t' row e h w = subst (λ (z : Stage). Comes n [] v (
 pub whole_read : (text : List ℕ) (t : List Line) (row : List ℕ) (r : Result (Sealed × Verdict) Fault) (t' : List Line) (row' : List ℕ)
     → length t ≡ 1000 → length row ≡ 200 → length text ≤ 65536 → (length text ≡ 0 → ⊥) → Comes 1 (lines text) None model.fresh row r t' row' → TextRead text t row r t' row'
 whole_read text t row r t' row' a b c d h = rw (eq-eqb (length t) 1000 a, eq-eqb (length row) 200 b, lt-leb 65537 (length text) (omega arith), ne_eqb (length text) 0 d) h
+
+-- a text that is refused before its lines
+pub whole_refused : (text : List ℕ) (t : List Line) (row : List ℕ) (r : Result (Sealed × Verdict) Fault) (t' : List Line) (f : Fault)
+    → length t ≡ 1000 → length row ≡ 200 → t' ≡ t → r ≡ Err f → LengthChecked (length text) (Err f) → TextRead text t row r t' row
+whole_refused text t row r t' f a b e q h = rw (eq-eqb (length t) 1000 a, eq-eqb (length row) 200 b) (⊎_elim
+    (λ w. rw (le-leb 65537 (length text) (omega (arith, w.0))) (q ∙ ap Err w.1, e, refl))
+    (λ w. rw (lt-leb 65537 (length text) (omega (arith, w.0)), eq-eqb (length text) 0 w.0) (q ∙ ap Err w.1, e, refl))
+    h)
 
 pub made_part : {A E : Type 0} (r : Result A E) (P Q : A → Type 0) → ((x : A) → P x → Q x) → IfOk r P → IfOk r Q
 made_part (Ok x) P Q f h = f x h

@@ -30,7 +30,7 @@ use Rattle.text.proofs.Standings.{at, no_ok}
 
 abbrev Sound : Found → model.State → List ℕ → List Clause → Type 0
 Sound None s row cs = Unit {0}
-Sound (Some p) s row cs = (¬ IsIntake s.stage) × Core cs row p.1
+Sound (Some p) s row cs = (¬ IsIntake s.stage) × Core cs row p.count
 
 record Good (v : Found) (s : model.State) (row : List ℕ) (cs : List Clause) : Type 0 where
   story : (h : List (Call × Answer)) × History h s
@@ -68,7 +68,7 @@ more_is (Refute n) cs ds = refl
 
 same_row : (v : Found) (s t : model.State) (row row' : List ℕ) (cs : List Clause) → ¬ IsIntake t.stage → row' ≡ row → Sound v s row cs → Sound v t row' cs
 same_row None s t row row' cs late e q = tt
-same_row (Some p) s t row row' cs late e q = (late, subst (λ (z : List ℕ). Core cs z p.1) (sym e) q.1)
+same_row (Some p) s t row row' cs late e q = (late, subst (λ (z : List ℕ). Core cs z p.count) (sym e) q.1)
 
 frozen_agrees : (s t : model.State) (cs : List Clause) → Frozen s t → Agrees s cs → Agrees t cs
 frozen_agrees s t cs f a = let e = f.1 in (a.0 ∙ sym f.1, λ m h k. let k' : m ≤ s.given = omega arith in f.2 m h k' ∙ a.1 m h k')
@@ -93,7 +93,7 @@ core_of s cs n count before row t h hi a x q =
     )
 
 refute_good : (v : Found) (s : model.State) (row row' : List ℕ) (cs : List Clause) (n m : ℕ) (t : model.State) → ¬ IsIntake s.stage
-    → Good v s row cs → Exists s.stage (refute n row) → Answered s (refute n row) (core row' m) t → Good (Some (n, m)) t row' cs
+    → Good v s row cs → Exists s.stage (refute n row) → Answered s (refute n row) (core row' m) t → Good (Some (record { line = n; count = m })) t row' cs
 refute_good v s row row' cs n m t late g x q =
     let c = refute n row in let a = core row' m in
     let f = (step s c a t (holds g.story.1) x q).frozen late in

@@ -1,46 +1,13 @@
 -- The field that a call's refusal is about.
-use Rattle.std.specs.Prelude.{ℕ, Bool, true, false, cond, ◌&&◌, ◌||◌, List, length, Some, None, Option, ◌==◌, nat_le, nat_lt}
+use Rattle.std.specs.Prelude.{ℕ, Bool, true, false, cond, ◌&&◌, ◌||◌, List, length, Some, None, Option, ◌==◌, nat_lt}
 use Rattle.clause.specs.declared.refusal.Refusal.{Refusal}
-use Rattle.clause.specs.declared.refusal.Refusal.TheVariants.{WrongSize, TextTooLong, TextEmpty, UnknownKey, FieldCount, FieldForm, WrongState, LetterRange, WrongCount, NoSuchLine, NotInForce, WrongKind, InitialMeetsNext, LacksLiteral, TooManyAtoms, Counterexample, RestingEverywhere, CoverMisfit, LiteralsDiffer, NoRoom, NotEmpty, OutOfRange, RunBreaks}
-use Rattle.clause.specs.declared.syntax.LitSet.{LitSet}
+use Rattle.clause.specs.declared.refusal.Refusal.TheVariants.{LetterRange, NoSuchLine, NotInForce, WrongKind}
 use Rattle.clause.specs.declared.syntax.Clause.{Clause}
 use Rattle.clause.specs.declared.syntax.Clause.TheVariants.{Initial, Global, Eventuality, Assumption, Never}
+use Rattle.clause.specs.Sets.{reaches}
 use Rattle.protocol.specs.State as model
 use Rattle.records.specs.declared.record.Record.{Record}
 use Rattle.records.specs.declared.record.Record.TheVariants.{Give, Seal, WaitLine, WaitLiteral, Resolve, Trial, OpenLoop, CloseLoop, Abandon, DrawFor, Draw, Refute}
-use Rattle.records.specs.Guards.{wide}
-use Rattle.text.specs.declared.places.About.{About}
-use Rattle.text.specs.declared.places.About.TheVariants.{Letter, Number, Force, Kind, Nothing}
-
--- what a refusal of a call is about
-abbrev pub matter_of : Refusal → About
-matter_of WrongSize = Nothing
-matter_of TextTooLong = Nothing
-matter_of TextEmpty = Nothing
-matter_of UnknownKey = Nothing
-matter_of FieldCount = Nothing
-matter_of FieldForm = Nothing
-matter_of WrongState = Nothing
-matter_of LetterRange = Letter
-matter_of WrongCount = Nothing
-matter_of NoSuchLine = Number
-matter_of NotInForce = Force
-matter_of WrongKind = Kind
-matter_of InitialMeetsNext = Nothing
-matter_of LacksLiteral = Nothing
-matter_of TooManyAtoms = Nothing
-matter_of Counterexample = Nothing
-matter_of RestingEverywhere = Nothing
-matter_of CoverMisfit = Nothing
-matter_of LiteralsDiffer = Nothing
-matter_of NoRoom = Nothing
-matter_of NotEmpty = Nothing
-matter_of OutOfRange = Nothing
-matter_of RunBreaks = Nothing
-
--- a letter above 19 in a set
-abbrev pub not_plain : LitSet → Bool
-not_plain s = nat_le 1048576 s.plus || nat_le 1048576 s.minus
 
 -- the second field, or else the third
 abbrev pub second_if : Bool → ℕ
@@ -49,10 +16,25 @@ second_if b = cond b 2 3
 -- the first field of a given clause with a letter above 19
 abbrev pub over_field : Clause → ℕ
 over_field (Initial s) = 2
-over_field (Global s x) = second_if (not_plain s)
-over_field (Eventuality s l) = second_if (not_plain s)
+over_field (Global s x) = second_if (reaches 20 s)
+over_field (Eventuality s l) = second_if (reaches 20 s)
 over_field (Assumption x) = 2
 over_field (Never s l) = 2
+
+-- the field of a letter that a call refuses
+abbrev pub letter_field : Record → ℕ
+letter_field (Give c) = over_field c
+letter_field Seal = 0
+letter_field (WaitLine n) = 0
+letter_field (WaitLiteral l) = 2
+letter_field (Resolve a b k) = 4
+letter_field (Trial n x ns) = second_if (reaches 60 n)
+letter_field (OpenLoop l gs) = cond (nat_lt 19 l.letter) 2 gs.over
+letter_field (CloseLoop ns) = 0
+letter_field Abandon = 0
+letter_field (DrawFor n m) = 0
+letter_field (Draw n) = 0
+letter_field (Refute n) = 0
 
 -- no line has this number
 abbrev pub outside : List model.Line → ℕ → Bool
@@ -82,25 +64,40 @@ not_never (Eventuality s l) = true
 not_never (Assumption x) = true
 not_never (Never s l) = false
 
--- by what is refused: a letter, a line number, that it is in force, its kind
-abbrev pub pick : About → ℕ → ℕ → ℕ → ℕ → ℕ
-pick Letter a b c d = a
-pick Number a b c d = b
-pick Force a b c d = c
-pick Kind a b c d = d
-pick Nothing a b c d = 0
+-- a clause that a call does not take first
+abbrev pub unfit : Record → Clause → Bool
+unfit (Give c) x = later x
+unfit Seal x = later x
+unfit (WaitLine n) x = later x
+unfit (WaitLiteral l) x = later x
+unfit (Resolve a b k) x = later x
+unfit (Trial n y ns) x = later x
+unfit (OpenLoop l gs) x = later x
+unfit (CloseLoop ns) x = later x
+unfit Abandon x = later x
+unfit (DrawFor n m) x = not_never x
+unfit (Draw n) x = later x
+unfit (Refute n) x = later x
 
--- the first field that is refused, the key being 1; of the lines that a field names, and of the first of the open loop
-abbrev pub field_of : List model.Line → Option ℕ → Record → About → ℕ
-field_of ls first (Give c) q = pick q (over_field c) 0 0 0
-field_of ls first Seal q = 0
-field_of ls first (WaitLine n) q = pick q 0 2 2 2
-field_of ls first (WaitLiteral l) q = pick q 2 0 0 0
-field_of ls first (Resolve a b k) q = pick q 4 (second_if (outside ls a)) (second_if (dormant ls first a)) (second_if (later (model.clause_at ls a)))
-field_of ls first (Trial n x ns) q = pick q (second_if (wide n)) 4 4 4
-field_of ls first (OpenLoop l gs) q = pick q (cond (nat_lt 19 l.letter) 2 gs.over) 0 0 0
-field_of ls first (CloseLoop ns) q = pick q 0 2 2 2
-field_of ls first Abandon q = 0
-field_of ls first (DrawFor n m) q = pick q 0 (second_if (outside ls n)) (second_if (dormant ls first n)) (second_if (not_never (model.clause_at ls n)))
-field_of ls first (Draw n) q = pick q 0 2 2 2
-field_of ls first (Refute n) q = pick q 0 2 2 2
+-- the field of a line that a call refuses: of two lines, the first where that one is refused
+abbrev pub line_field : (ℕ → Bool) → Record → ℕ
+line_field p (Give c) = 0
+line_field p Seal = 0
+line_field p (WaitLine n) = 2
+line_field p (WaitLiteral l) = 0
+line_field p (Resolve a b k) = second_if (p a)
+line_field p (Trial n x ns) = 4
+line_field p (OpenLoop l gs) = 0
+line_field p (CloseLoop ns) = 2
+line_field p Abandon = 0
+line_field p (DrawFor n m) = second_if (p n)
+line_field p (Draw n) = 2
+line_field p (Refute n) = 2
+
+-- the first field that a refusal is about, the key being 1, and 0 where it is about none; of the lines that a field names, and of the first of the open loop
+abbrev pub field_of : List model.Line → Option ℕ → Record → Refusal → ℕ
+field_of ls first w LetterRange = letter_field w
+field_of ls first w NoSuchLine = line_field (outside ls) w
+field_of ls first w NotInForce = line_field (dormant ls first) w
+field_of ls first w WrongKind = line_field (λ n. unfit w (model.clause_at ls n)) w
+field_of ls first w _ = 0

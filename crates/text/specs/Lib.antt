@@ -1,4 +1,5 @@
 pub mod Calls
 pub mod Fields
 pub mod Reading
+pub mod Texts
 pub mod Promise

@@ -3,7 +3,7 @@ use Rattle.std.specs.Prelude.{◌≡◌, ℕ, ◌+◌, ◌-◌, Bool, true, fals
 use Rattle.clause.specs.declared.refusal.Fault.{Fault}
 use Rattle.clause.specs.declared.refusal.Refusal.{Refusal}
 use Rattle.clause.specs.declared.refusal.Refusal.TheVariants.{WrongSize, TextTooLong, TextEmpty, WrongState}
-use Rattle.clause.specs.Refusals.{plain}
+use Rattle.clause.specs.Refusals.{plain, placed}
 use Rattle.protocol.specs.State as model
 use Rattle.lines.specs.declared.line.Line.{Line}
 use Rattle.lines.specs.View.{lines_of, BlankFrom}
@@ -13,11 +13,12 @@ use Rattle.forms.specs.Cuts.{split}
 use Rattle.records.specs.declared.record.Record.{Record}
 use Rattle.records.specs.declared.record.Record.TheVariants.{Give, Seal, WaitLine, WaitLiteral, Resolve, Trial, OpenLoop, CloseLoop, Abandon, DrawFor, Draw, Refute}
 use Rattle.records.specs.Records.{record_of}
-use Rattle.text.specs.declared.stage.Standing.{Standing}
+use Rattle.text.specs.declared.reading.Reading.{Reading}
+use Rattle.text.specs.declared.stage.Refuted.{Refuted}
 use Rattle.text.specs.declared.stage.Verdict.{Verdict}
 use Rattle.text.specs.declared.stage.Verdict.TheVariants.{Open, Contradiction}
-use Rattle.text.specs.Calls.{Step, listed, guarded}
-use Rattle.text.specs.Fields.{matter_of, field_of}
+use Rattle.text.specs.Calls.{Step}
+use Rattle.text.specs.Fields.{field_of}
 
 -- the first line of the open loop
 abbrev pub first_of : model.Stage → Option ℕ
@@ -25,13 +26,9 @@ first_of model.intake = None
 first_of model.sealed = None
 first_of (model.loop f l gs) = Some f
 
--- a fault, with the text's line and field
-abbrev pub placed : ℕ → ℕ → Fault → Fault
-placed line field f = record { refusal = f.refusal; line = line; field = field; detail = f.detail }
-
 -- the last accepted refutation: its line, and the size of its core
 abbrev pub Found : Type 0
-Found = Option (ℕ × ℕ)
+Found = Option Refuted
 
 abbrev pub found : Record → Found → ℕ → Found
 found (Give c) v j = v
@@ -45,15 +42,24 @@ found (CloseLoop ns) v j = v
 found Abandon v j = v
 found (DrawFor n m) v j = v
 found (Draw n) v j = v
-found (Refute n) v j = Some (n, j)
+found (Refute n) v j = Some (record { line = n; count = j })
 
 abbrev pub told : ℕ → model.State → Record → Found → Result ℕ Fault → Result Found Fault
 told n s k v (Ok m) = Ok (found k v m)
-told n s k v (Err f) = Err (placed n (field_of s.lines (first_of s.stage) k (matter_of f.refusal)) f)
+told n s k v (Err f) = Err (placed n (field_of s.lines (first_of s.stage) k f.refusal) f)
 
 abbrev pub Judged : ℕ → Result Record Fault → Found → model.State → List ℕ → Result Found Fault → model.State → List ℕ → Type 0
 Judged n (Err f) v s row r s' row' = (r ≡ Err (placed n f.field f)) × (s' ≡ s) × (row' ≡ row)
 Judged n (Ok k) v s row r s' row' = (a : Result ℕ Fault) × Step s k row a s' row' × (r ≡ told n s k v a)
+
+-- what a text has come to after a line, accepted or refused, and what that line tells
+abbrev pub reached : Result Reading (Reading × Fault) → Reading
+reached (Ok p) = p
+reached (Err q) = q.0
+
+abbrev pub known : Result Reading (Reading × Fault) → Result Found Fault
+known (Ok p) = Ok p.found
+known (Err q) = Err q.1
 
 -- line n of a text, without its end, and whether that is there
 abbrev pub LineRead : ℕ → List ℕ → Bool → Found → model.State → List ℕ → Result Found Fault → model.State → List ℕ → Type 0
@@ -71,7 +77,7 @@ lines text = lines_in (split 10 text)
 -- the verdict of a text whose last line number is n
 abbrev pub verdict : Found → ℕ → Verdict
 verdict None n = Open n
-verdict (Some p) n = Contradiction p.0 p.1
+verdict (Some p) n = Contradiction p.line p.count
 
 -- a case whose text was refused: its open loop is abandoned
 abbrev pub left : model.Stage → model.State → model.State
@@ -109,30 +115,6 @@ IsCase (Err f) s t = Unit {0}
 -- what the lines of a text come to
 abbrev pub Comes : ℕ → List (List ℕ × Bool) → Found → model.State → List ℕ → Result (Sealed × Verdict) Fault → List Line → List ℕ → Type 0
 Comes n ls v s row r t' row' = (u : model.State) × Reads n ls v s row (outcome r) u row' × Held u t' × IsCase r u t'
-
--- what is known of a state: its last line number, and the first of its open loop
-abbrev pub Knows : Standing → model.State → Type 0
-Knows k s = (k.last ≡ model.last s) × (k.first ≡ first_of s.stage)
-
--- the same after an accepted record
-abbrev pub moved : Standing → Record → ℕ → Standing
-moved p (Give c) j = record { last = j; first = p.first }
-moved p Seal j = record { last = j; first = p.first }
-moved p (WaitLine n) j = record { last = j; first = p.first }
-moved p (WaitLiteral l) j = record { last = j; first = p.first }
-moved p (Resolve a b k) j = record { last = j; first = p.first }
-moved p (Trial n x ns) j = record { last = j; first = p.first }
-moved p (OpenLoop l gs) j = record { last = p.last + length (guarded gs); first = Some j }
-moved p (CloseLoop ns) j = record { last = p.last + length (listed ns); first = None }
-moved p Abandon j = record { last = j; first = None }
-moved p (DrawFor n m) j = record { last = j; first = p.first }
-moved p (Draw n) j = record { last = j; first = p.first }
-moved p (Refute n) j = p
-
--- what of a line's answer is told on
-abbrev pub found_in : Result (Standing × Found) Fault → Result Found Fault
-found_in (Ok p) = Ok p.1
-found_in (Err f) = Err f
 
 abbrev pub RefusedAtOnce : Refusal → List Line → List ℕ → Result (Sealed × Verdict) Fault → List Line → List ℕ → Type 0
 RefusedAtOnce q t row r t' row' = (r ≡ Err (plain q)) × (t' ≡ t) × (row' ≡ row)

@@ -1,18 +1,19 @@
-ghost use Rattle.std.specs.Prelude.{◌≡◌, ℕ, List, [], length};
+ghost use Rattle.std.specs.Prelude.{◌≡◌, ℕ, List, []};
 ghost use Rattle.case.specs.View.{view_loop, stage_of};
 ghost use Rattle.text.specs.Calls.{view, LedTo};
-ghost use Rattle.text.specs.Reading.{Knows, Held, left, Comes, verdict as the_verdict};
+ghost use Rattle.text.specs.Reading.{Held, left, Comes, verdict as the_verdict};
 
-use crate::places::placed;
-use crate::stage::{Stage, Standing, Verdict};
+use crate::reading::Reading;
+use crate::stage::{Refuted, Stage, Verdict};
 use case::stage::{OpenLoop, Sealed};
 use clause::refusal::{Fault, Refusal};
 use lines::line::Line;
 
+// An open loop lies beside its table: what led to both is asked of each function that ends a case.
+
 // Ends a loop whose text was refused.
-fn give_up(o: OpenLoop, table: &mut [Line])
-    requires long { length table.old ≡ 1000 }
-    requires led { LedTo (view_loop o table.old) table.old }
+fn give_up(o: OpenLoop, table: &mut [Line; 1000])
+    requires { LedTo (view_loop o table.old) table.old }
     ensures { Held (left (stage_of o) (view_loop o table.old)) table.new }
 {
     match o.abandon(table) {
@@ -21,50 +22,47 @@ fn give_up(o: OpenLoop, table: &mut [Line])
     }
 }
 
-// Ends the case of a refused text.
-pub(crate) fn leave(stage: Stage, table: &mut [Line])
-    requires long { length table.old ≡ 1000 }
-    requires led { LedTo (view stage table.old) table.old }
-    ensures { Held (left (view stage table.old).stage (view stage table.old)) table.new }
+fn verdict(found: Option<Refuted>, last: u16) -> Verdict
+    ensures { result ≡ the_verdict found last }
 {
-    match stage {
-        Stage::Taking(_i) => (),
-        Stage::Working(_s) => (),
-        Stage::Looping(o) => give_up(o, table),
-    }
-}
-
-fn verdict(before: Option<(u16, u16)>, last: u16) -> Verdict
-    ensures { result ≡ the_verdict before last }
-{
-    match before {
-        Some((n, count)) => Verdict::Contradiction(n, count),
+    match found {
+        Some(refuted) => Verdict::Contradiction(refuted.line, refuted.count),
         None => Verdict::Open(last),
     }
 }
 
-// The end of a text before line n: one in intake is sealed, one in an open loop is refused.
-pub(crate) fn finish(
-    stage: Stage,
-    at: Standing,
-    before: Option<(u16, u16)>,
-    n: u16,
-    table: &mut [Line],
-) -> Result<(Sealed, Verdict), Fault>
-    requires long { length table.old ≡ 1000 }
-    requires knows { Knows at (view stage table.old) }
-    requires led { LedTo (view stage table.old) table.old }
-    ensures { (row : List ℕ) → Comes n [] before (view stage table.old) row result table.new row }
-{
-    match stage {
-        Stage::Taking(i) => {
-            let (s, last) = i.seal();
-            Ok((s, verdict(before, last)))
+impl Reading {
+    // Ends the case of a refused text.
+    pub(crate) fn leave(self, table: &mut [Line; 1000])
+        requires { LedTo (view self.stage table.old) table.old }
+        ensures { Held (left (view self.stage table.old).stage (view self.stage table.old)) table.new }
+    {
+        let Reading { stage, found: _ } = self;
+        match stage {
+            Stage::Taking(_) | Stage::Working(_) => (),
+            Stage::Looping(o) => give_up(o, table),
         }
-        Stage::Working(s) => Ok((s, verdict(before, at.last))),
-        Stage::Looping(o) => {
-            give_up(o, table);
-            Err(placed(n, 0, Fault::of(Refusal::WrongState)))
+    }
+
+    // The end of a text before line n: one in intake is sealed, one in an open loop is refused.
+    pub(crate) fn finish(self, n: u16, table: &mut [Line; 1000]) -> Result<(Sealed, Verdict), Fault>
+        requires { LedTo (view self.stage table.old) table.old }
+        ensures { (row : List ℕ) → Comes n [] self.found (view self.stage table.old) row result table.new row }
+    {
+        let Reading { stage, found } = self;
+        match stage {
+            Stage::Taking(i) => {
+                let (s, last) = i.seal();
+                Ok((s, verdict(found, last)))
+            }
+            Stage::Working(s) => {
+                let last = s.last();
+                Ok((s, verdict(found, last)))
+            }
+            Stage::Looping(o) => {
+                give_up(o, table);
+                Err(Fault::of(Refusal::WrongState).placed(n, 0))
+            }
         }
     }
 }

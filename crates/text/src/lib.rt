@@ -5,6 +5,7 @@ pub mod cases;
 pub mod ends;
 pub mod lists;
 pub mod places;
+pub mod reading;
 pub mod stage;
 pub mod steps;
-pub mod taken;
+pub mod text_lines;

@@ -1,16 +1,24 @@
-ghost use Rattle.std.specs.Prelude.{◌≡◌, ◌≤◌, length};
+ghost use Rattle.std.specs.Prelude.{◌≡◌, ◌≤◌, min, length, take};
 ghost use Rattle.text.specs.Calls.{listed as the_listed, guarded};
 
 use clause::syntax::LitSet;
 use forms::lists::Numbers;
 use records::record::Guards;
 
+// The items that are counted.
+fn counted<T>(at: &[T; 9], count: u8) -> &[T]
+    ensures exact { result.now ≡ take (min count 9) at.now }
+    ensures few { length result.now ≤ 9 }
+{
+    &at[..count.min(9) as usize]
+}
+
 // The numbers of a list.
 pub(crate) fn listed(ns: &Numbers) -> &[u16]
     ensures exact { result.now ≡ the_listed ns.now }
     ensures few { length result.now ≤ 9 }
 {
-    &ns.at[0..ns.count.min(9) as usize]
+    counted(&ns.at, ns.count)
 }
 
 // The guards of an open line.
@@ -18,5 +26,5 @@ pub(crate) fn guard_list(gs: &Guards) -> &[LitSet]
     ensures exact { result.now ≡ guarded gs.now }
     ensures few { length result.now ≤ 9 }
 {
-    &gs.at[0..gs.count.min(9) as usize]
+    counted(&gs.at, gs.count)
 }

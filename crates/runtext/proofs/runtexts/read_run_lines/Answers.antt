@@ -1,32 +1,49 @@
-use Rattle.std.proofs.Common.{◌≡◌, ℕ, ◌+◌, ◌<◌, Bool, true, List, ◌∷◌, length, Err, sym, subst, arith, rules}
-use Rattle.forms.specs.Cuts.{split}
+use Rattle.std.proofs.Common.{◌≡◌, ◌+◌, ◌<◌, [], ◌∷◌, length, Err, Result, sym, refl, ap, ◌∙◌, subst, arith, rules}
+use Rattle.clause.specs.declared.refusal.Fault.{Fault}
+use Rattle.text.specs.declared.text_lines.TextLines.{TextLines}
 use Rattle.text.specs.Reading.{lines}
-use Rattle.text.proofs.Endings.{made_is, lines_none, lines_more}
-use Rattle.runtext.specs.Reading.{RunReads, ends}
-use Rattle.runtext.proofs.Reading.{run_goes, run_stops}
+use Rattle.runtext.specs.declared.stage.RunStage.TheVariants.{Start}
+use Rattle.runtext.specs.declared.stage.TextRun.{TextRun}
+use Rattle.runtext.specs.Reading.{RunReads, ends, stops, goes}
+use Rattle.runtext.proofs.Reading.{reads_along}
 use Rattle.runtext.proofs.runtexts.read_run_lines.Goals as goal
 
-pub returns-then-rest-eq0 : goal.returns-then-rest-eq0
-returns-then-rest-eq0 c =
-    let l = c.loop-rest in
-    l.invariant.1 c.finish_run.result (subst (λ (ls : List (List ℕ × Bool)). RunReads l.n ls l.stage c.finish_run.result) (sym (lines_none l.rest.now c.if-rest-eq0.true)) (ends c.finish_run.ensures))
+pub loop-line-init : goal.loop-line-init
+loop-line-init c =
+    let o = c.of-rest in
+    let same : length o.result.rest.now ≡ length c.args.text.now = ap length o.ensures.rest in record {
+      counted = λ _. omega arith;
+      few = omega arith;
+      onward = λ r h. reads_along o.result.number 1 (lines o.result.rest.now) (lines c.args.text.now) Start r o.ensures.number (ap lines o.ensures.rest) h;
+    }
 
-pub returns-in-Err : goal.returns-in-Err
-returns-in-Err c =
-    let l = c.loop-rest in let q = c.take_run_line in
-    let line = c.cut.result.0.now in let later = c.in-Some.later.now in
-    let e : split 10 l.rest.now ≡ line ∷ split 10 later = search rules in
-    l.invariant.1 (Err c.in-Err.f) (subst (λ (ls : List (List ℕ × Bool)). RunReads l.n ls l.stage (Err c.in-Err.f)) (sym (lines_more l.rest.now line later e))
-    (run_stops l.n line true (lines later) l.stage q.result c.in-Err.f c.in-Err.is q.ensures.exact))
+pub loop-line-preserved : goal.loop-line-preserved
+loop-line-preserved c =
+    let l = c.loop-line in let line = c.in-Some.line in let w = c.in-Some.ensures in let later = c.next.new.self in
+    let q = c.in_ok-stage.ensures in
+    let some : 0 < length line.bytes.now = q.some in
+    let counted = l.invariant.counted (omega (arith, w.steps.fewer)) in
+    let few = l.invariant.few in
+    let number : later.number ≡ line.number + 1 = w.steps.next_number (omega (arith, few)) ∙ ap (λ n. n + 1) (sym w.steps.number) in
+    record {
+      counted = λ h. let parted = w.steps.parted h in omega (arith, parted, some, counted, number, w.steps.number);
+      few = omega (arith, counted, number, w.steps.number, w.steps.fewer, c.requires);
+      onward = λ r h. l.invariant.onward r
+          (reads_along line.number l.rest.number ((line.bytes.now, line.ended) ∷ lines later.rest.now) (lines l.rest.rest.now) l.stage r w.steps.number (sym w.steps.front)
+          (goes {l = (line.bytes.now, line.ended)} q.exact (reads_along later.number (line.number + 1) (lines later.rest.now) (lines later.rest.now) c.in_ok-stage.stage r number refl h)));
+    }
 
-pub loop-rest-preserved : goal.loop-rest-preserved
-loop-rest-preserved c =
-    let l = c.loop-rest in let q = c.take_run_line in
-    let line = c.cut.result.0.now in let later = c.in-Some.later.now in
-    let e : split 10 l.rest.now ≡ line ∷ split 10 later = search rules in
-    let m : length line + 1 + length later ≡ length l.rest.now = search rules in
-    let some = made_is q.result (λ _. 0 < length line) c.in-Ok.next c.in-Ok.is q.ensures.some in (
-      omega (arith, m, some, l.invariant.0),
-      λ r h. l.invariant.1 r (subst (λ (ls : List (List ℕ × Bool)). RunReads l.n ls l.stage r) (sym (lines_more l.rest.now line later e))
-          (run_goes l.n line true (lines later) l.stage c.in-Ok.next q.result r c.in-Ok.is q.ensures.exact h)),
-    )
+pub returns-in_err-stage : goal.returns-in_err-stage
+returns-in_err-stage c =
+    let l = c.loop-line in let line = c.in-Some.line in let w = c.in-Some.ensures in let q = c.in_err-stage.ensures in
+    let f = c.in_err-stage.field-0.0 in
+    let e : ◌≡◌ {A = Result TextRun Fault} c.from_residual.result (Err f) = search rules in
+    subst (λ (z : Result TextRun Fault). RunReads 1 (lines c.args.text.now) Start z) (sym e)
+    (l.invariant.onward (Err f) (reads_along line.number l.rest.number ((line.bytes.now, line.ended) ∷ lines c.next.new.self.rest.now) (lines l.rest.rest.now) l.stage (Err f) w.steps.number (sym w.steps.front)
+    (stops {l = (line.bytes.now, line.ended)} q.exact)))
+
+pub returns : goal.returns
+returns c =
+    let l = c.loop-line in let w = c.in_default.ensures in
+    l.invariant.onward c.finish_run.result
+    (reads_along c.next.new.self.number l.rest.number [] (lines l.rest.rest.now) l.stage c.finish_run.result (ap (λ (z : TextLines). z.number) w.steps.1) (sym w.steps.0) (ends c.finish_run.ensures))

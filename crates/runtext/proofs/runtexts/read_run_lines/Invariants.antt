@@ -1,4 +1,4 @@
-use Rattle.std.proofs.Common.{◌+◌, ◌*◌, ◌≤◌, length, Result}
+use Rattle.std.proofs.Common.{◌+◌, ◌*◌, ◌<◌, ◌≤◌, length, Result}
 use Rattle.clause.specs.declared.refusal.Fault.{Fault}
 use Rattle.text.specs.Reading.{lines}
 use Rattle.runtext.specs.declared.stage.RunStage.TheVariants.{Start}
@@ -7,10 +7,9 @@ use Rattle.runtext.specs.Reading.{RunReads}
 use Rattle.runtext.proofs.runtexts.read_run_lines.Given as goal
 
 -- what is left of the text, read from here, comes to what the whole text comes to
-abbrev pub invariant-loop-rest : goal.invariant-loop-rest
-invariant-loop-rest l =
-    (2 * l.n + length l.rest ≤ length l.text + 2)
-    × ((r : Result TextRun Fault) → RunReads l.n (lines l.rest) l.stage r → RunReads 1 (lines l.text) Start r)
-
-abbrev pub decreases-loop-rest : goal.decreases-loop-rest
-decreases-loop-rest l = length l.rest
+abbrev pub invariant-loop-line : goal.invariant-loop-line
+invariant-loop-line l = record {
+  counted : 0 < length l.rest.rest.now → 2 * l.rest.number + length l.rest.rest.now ≤ length l.text + 2;
+  few : l.rest.number ≤ 32770;
+  onward : (r : Result TextRun Fault) → RunReads l.rest.number (lines l.rest.rest.now) l.stage r → RunReads 1 (lines l.text) Start r;
+}
