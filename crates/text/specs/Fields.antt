@@ -21,6 +21,11 @@ over_field (Eventuality s l) = second_if (reaches 20 s)
 over_field (Assumption x) = 2
 over_field (Never s l) = 2
 
+-- a field, or 0 where there is none
+abbrev pub or_none : Option ℕ → ℕ
+or_none None = 0
+or_none (Some k) = k
+
 -- the field of a letter that a call refuses
 abbrev pub letter_field : Record → ℕ
 letter_field (Give c) = over_field c
@@ -29,7 +34,7 @@ letter_field (WaitLine n) = 0
 letter_field (WaitLiteral l) = 2
 letter_field (Resolve a b k) = 4
 letter_field (Trial n x ns) = second_if (reaches 60 n)
-letter_field (OpenLoop l gs) = cond (nat_lt 19 l.letter) 2 gs.over
+letter_field (OpenLoop l gs) = cond (nat_lt 19 l.letter) 2 (or_none gs.over)
 letter_field (CloseLoop ns) = 0
 letter_field Abandon = 0
 letter_field (DrawFor n m) = 0

@@ -3,7 +3,6 @@
 
 pub mod cases;
 pub mod ends;
-pub mod lists;
 pub mod places;
 pub mod reading;
 pub mod stage;

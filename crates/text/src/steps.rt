@@ -1,7 +1,6 @@
 ghost use Rattle.std.specs.Prelude.{List};
 ghost use Rattle.text.specs.Calls.{view, Step, LeadsOn};
 
-use crate::lists::{guard_list, listed};
 use crate::stage::Stage;
 use clause::refusal::{Fault, Refusal};
 use lines::line::Line;
@@ -41,11 +40,11 @@ pub(crate) fn step(
             (Stage::Working(s), answer)
         }
         (Stage::Working(mut s), Record::Trial(now, next, lines)) => {
-            let answer = s.infer(table, &Trial, listed(&lines), Claim { now, next });
+            let answer = s.infer(table, &Trial, lines.as_slice(), Claim { now, next });
             (Stage::Working(s), answer)
         }
         (Stage::Working(s), Record::OpenLoop(l, guards)) => {
-            match s.open(table, l, guard_list(&guards)) {
+            match s.open(table, l, guards.as_slice()) {
                 Ok((o, first)) => (Stage::Looping(o), Ok(first)),
                 Err((s, f)) => (Stage::Working(s), Err(f)),
             }
@@ -67,10 +66,10 @@ pub(crate) fn step(
             (Stage::Looping(o), answer)
         }
         (Stage::Looping(mut o), Record::Trial(now, next, lines)) => {
-            let answer = o.infer(table, &Trial, listed(&lines), Claim { now, next });
+            let answer = o.infer(table, &Trial, lines.as_slice(), Claim { now, next });
             (Stage::Looping(o), answer)
         }
-        (Stage::Looping(o), Record::CloseLoop(covers)) => match o.close(table, listed(&covers)) {
+        (Stage::Looping(o), Record::CloseLoop(covers)) => match o.close(table, covers.as_slice()) {
             Ok((s, first)) => (Stage::Working(s), Ok(first)),
             Err((o, f)) => (Stage::Looping(o), Err(f)),
         },
