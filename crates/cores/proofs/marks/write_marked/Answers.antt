@@ -1,4 +1,4 @@
-use Rattle.std.proofs.Common.{◌≡◌, ℕ, ◌+◌, ◌-◌, List, set, sym, ap, ◌∙◌, subst, arith, rules, tests}
+use Rattle.std.proofs.Common.{◌≡◌, ℕ, ◌+◌, ◌-◌, List, sym, subst, arith, rules, tests}
 use Rattle.cores.specs.Marks.{marked_to}
 use Rattle.cores.proofs.Rows.{Holding, holding_more, holding_same, row_filled}
 use Rattle.cores.proofs.marks.write_marked.Goals as goal

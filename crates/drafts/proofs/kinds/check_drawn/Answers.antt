@@ -1,4 +1,4 @@
-use Rattle.std.proofs.Common.{◌≡◌, Bool, true, false, cond, ◌⊎◌, Ok, Err, Result, sym, refl, ◌∙◌, subst, inl, inr, ⊎_elim, rules, tests}
+use Rattle.std.proofs.Common.{◌≡◌, Bool, true, false, cond, ◌⊎◌, Ok, Err, Result, sym, refl, subst, inl, inr, ⊎_elim, rules, tests}
 use Rattle.std.proofs.lemmas.Bool.{true≢false}
 use Rattle.clause.specs.declared.refusal.Fault.{Fault}
 use Rattle.clause.specs.declared.syntax.Clause.{Clause}

@@ -1,7 +1,5 @@
-use Rattle.std.proofs.Common.{◌≤◌, ◌≡◌, ◌++◌, ◌-◌, length, replicate, take, refl, ap, ◌∙◌, subst, sym, arith}
+use Rattle.std.proofs.Common.{◌≤◌, length, refl}
 use Rattle.clause.specs.Meaning.{none}
-use Rattle.clause.specs.declared.syntax.LitSet.{LitSet}
-use Rattle.protocol.specs.Causes.{SomeOver}
 use Rattle.lines.proofs.Placing.{front_is}
 use Rattle.case.proofs.stage.Sealed.opened.Goals as goal
 
