@@ -33,9 +33,6 @@ pub made_all : {A E : Type 0} (r : Result A E) (P : Type 0) → P → IfOk r (λ
 made_all (Ok x) P p = p
 made_all (Err e) P p = tt
 
-pub made_is : {A E : Type 0} (r : Result A E) (P : A → Type 0) (x : A) → r ≡ Ok x → IfOk r P → P x
-made_is r P x e h = subst (λ z. IfOk z P) e h
-
 in_more : (p : List ℕ) (ps : List (List ℕ)) → 0 < length ps → lines_in (p ∷ ps) ≡ (p, true) ∷ lines_in ps
 in_more p [] h = absurd (omega arith)
 in_more p (q ∷ ps) h = refl
@@ -45,10 +42,6 @@ lines_more text line rest e = ap lines_in e ∙ in_more line (split 10 rest) (sp
 
 pub lines_last : (text line : List ℕ) → split 10 text ≡ line ∷ [] → line ≡ text → (length text ≡ 0 → ⊥) → lines text ≡ (line, false) ∷ []
 lines_last text line e q h = ap lines_in e ∙ cond-false _ _ _ (ne_eqb (length line) 0 (λ z. h (sym (ap length q) ∙ z)))
-
-pub lines_none : (text : List ℕ) → length text ≡ 0 → lines text ≡ []
-lines_none [] h = refl
-lines_none (x ∷ xs) h = absurd (omega arith)
 
 -- a stage that calls led to stands in its table
 pub held_view : (st : Stage) (t : List Line) → length t ≡ 1000 → LedTo (view st t) t → Held (view st t) t

@@ -31,14 +31,6 @@ view_last (Taking i) t long = front_length i.given t (omega (arith, i.few))
 view_last (Working s) t long = front_length s.body.last t (omega (arith, s.body.fits))
 view_last (Looping o) t long = front_length o.body.last t (omega (arith, o.body.fits))
 
-pub known_last : (st z : Stage) (n : ℕ) → st ≡ z → n ≡ number_of z → (t : List Line) → length t ≡ 1000 → n ≡ model.last (view st t)
-known_last st z n e h t long = h ∙ ap number_of (sym e) ∙ sym (view_last st t long)
-
-pub number_fits : (st : Stage) → number_of st ≤ 1000
-number_fits (Taking i) = omega (arith, i.few)
-number_fits (Working s) = omega (arith, s.body.fits)
-number_fits (Looping o) = omega (arith, o.body.fits)
-
 -- the lines of a stage stand in front of the table
 pub view_lines : (st : Stage) (t : List Line) → length t ≡ 1000 → (view st t).lines ≡ lines_of (take (model.last (view st t)) t)
 view_lines (Taking i) t long = ap (λ n. lines_of (take n t)) (sym (view_last (Taking i) t long))
@@ -76,11 +68,7 @@ did_refused (Some c) s t w row row' e q = let a = subst (λ (z : Answer). Answer
 pub refused_same : (s : model.State) (w : Record) (row row' : List ℕ) (e : Fault) (t : model.State) → Step s w row (Err e) t row' → t ≡ s
 refused_same s w row row' e t q = did_refused (call_of s.stage w row) s t w row row' e q
 
--- an accepted record, as code has it
-pub taken_ok : (s s' : model.State) (w : Record) (row row' : List ℕ) (n : ℕ) (v x : Found) (a : Result ℕ Fault) (m : ℕ) → a ≡ Ok m → Step s w row a s' row' → x ≡ found w v m → Judged n (Ok w) v s row (Ok x) s' row'
-taken_ok s s' w row row' n v x a m e q ex = (Ok m, subst (λ (z : Result ℕ Fault). Step s w row z s' row') e q, ap Ok ex)
-
--- a refused one
+-- a refused record, as code has it
 pub taken_err : (s s' : model.State) (w : Record) (row row' : List ℕ) (n : ℕ) (v : Found) (a : Result ℕ Fault) (e y : Fault) → a ≡ Err e → Step s w row a s' row' → y ≡ placed n (field_of s'.lines (first_of s'.stage) w e.refusal) e
     → Judged n (Ok w) v s row (Err y) s' row'
 taken_err s s' w row row' n v a e y ea q ey =
