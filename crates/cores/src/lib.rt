@@ -12,7 +12,7 @@ mod marks;
 mod sweep;
 
 // Writes the core of line n into a row of 200 numbers, zeros after it, and answers its count.
-// It cannot fail: where the numbers do not fit, it writes nothing and answers 0.
+// No call of the library fails but for a listed cause: where the numbers do not fit, it writes nothing and answers 0.
 pub fn core_of(lines: &[Line], n: u16, given: u16, row: &mut [u16]) -> u16
     ensures core { FitsRow lines.now n given row.old → Cored lines.now n given result row.new }
     ensures none { (FitsRow lines.now n given row.old → ⊥) → (result ≡ 0) × (row.new ≡ row.old) }

@@ -21,6 +21,7 @@ pub(crate) fn write_marked(marks: &[bool; 1001], given: u16, row: &mut [u16]) ->
     ensures count { result ≡ length (marked_to marks.now given) }
     ensures row { row.new ≡ padded (marked_to marks.now given) }
 {
+    // Counted by hand: after `iter_mut().zip(..)` a proof knows nothing of what was written, and the end of `1..=given` stays open.
     let mut count = 0;
     for m in 1..given + 1 {
         if marks[m as usize] {

@@ -1,5 +1,5 @@
 -- From the tests of a draft to the causes of its call.
-use Rattle.std.proofs.Common.{◌≡◌, ℕ, List, ◌++◌, None, Err, Result, sym, refl, ap, subst}
+use Rattle.std.proofs.Common.{◌≡◌, ℕ, List, ◌++◌, None, Err, Result, sym, refl, ap, subst, length}
 use Rattle.clause.specs.declared.refusal.Fault.{Fault}
 use Rattle.clause.specs.declared.syntax.Clause.{Clause}
 use Rattle.protocol.specs.State as model
@@ -35,11 +35,11 @@ module _ (t : List Line) (g : ℕ) (c : Call) (ns : List ℕ) (Qs : List Cause) 
   abbrev state : model.State
   state = at_stage model.sealed g (lines_of t)
 
-  pub unnamed : (f : Fault) → ((st : model.Stage) (g : ℕ) → LoopFrom None st → First (named (at_stage st g (lines_of t)) ns) f) → First (checks state c) f
-  unnamed f q = subst (λ (Ps : List Cause). First Ps f) (sym is) (first_left (named state ns) Qs f (q model.sealed g (λ n. refl)))
+  pub unnamed : (f : Fault) → ((st : model.Stage) (g : ℕ) → LoopFrom None (length t) st → First (named (at_stage st g (lines_of t)) ns) f) → First (checks state c) f
+  unnamed f q = subst (λ (Ps : List Cause). First Ps f) (sym is) (first_left (named state ns) Qs f (q model.sealed g (λ n h. refl)))
 
-  pub unsuited : (f : Fault) → ((st : model.Stage) (g : ℕ) → LoopFrom None st → NoneOf (named (at_stage st g (lines_of t)) ns)) → First Qs f → First (checks state c) f
-  unsuited f n q = subst (λ (Ps : List Cause). First Ps f) (sym is) (first_after (named state ns) Qs f (n model.sealed g (λ n. refl)) q)
+  pub unsuited : (f : Fault) → ((st : model.Stage) (g : ℕ) → LoopFrom None (length t) st → NoneOf (named (at_stage st g (lines_of t)) ns)) → First Qs f → First (checks state c) f
+  unsuited f n q = subst (λ (Ps : List Cause). First Ps f) (sym is) (first_after (named state ns) Qs f (n model.sealed g (λ n h. refl)) q)
 
-  pub suited : ((st : model.Stage) (g : ℕ) → LoopFrom None st → NoneOf (named (at_stage st g (lines_of t)) ns)) → NoneOf Qs → NoneOf (checks state c)
-  suited n q = subst NoneOf (sym is) (none_both (named state ns) Qs (n model.sealed g (λ n. refl)) q)
+  pub suited : ((st : model.Stage) (g : ℕ) → LoopFrom None (length t) st → NoneOf (named (at_stage st g (lines_of t)) ns)) → NoneOf Qs → NoneOf (checks state c)
+  suited n q = subst NoneOf (sym is) (none_both (named state ns) Qs (n model.sealed g (λ n h. refl)) q)

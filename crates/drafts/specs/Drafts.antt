@@ -1,5 +1,5 @@
 -- A line that a call adds, were there a place for it.
-use Rattle.std.specs.Prelude.{ℕ, List, Ok, Err, Option, Result}
+use Rattle.std.specs.Prelude.{ℕ, List, Ok, Err, Option, Result, length}
 use Rattle.clause.specs.declared.refusal.Fault.{Fault}
 use Rattle.protocol.specs.State as model
 use Rattle.protocol.specs.Calls.{Call}
@@ -19,4 +19,4 @@ SealedDraft t c r = (g : ℕ) → Drafted (at_stage model.sealed g (lines_of t))
 
 -- at every stage whose open loop, if there is one, begins at first
 abbrev pub StageDraft : Option ℕ → List Line → Call → Result Line Fault → Type 0
-StageDraft first t c r = (st : model.Stage) (g : ℕ) → LoopFrom first st → Drafted (at_stage st g (lines_of t)) c r
+StageDraft first t c r = (st : model.Stage) (g : ℕ) → LoopFrom first (length t) st → Drafted (at_stage st g (lines_of t)) c r

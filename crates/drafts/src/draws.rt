@@ -8,7 +8,7 @@ use crate::kinds::{check_drawn, check_never};
 use clause::refusal::Fault;
 use clause::syntax::{Clause, LitSet};
 use lines::line::Line;
-use lines::named::Named;
+use lines::named::check_named;
 use lines::places::line_at;
 
 // What a never clause and an eventuality with its literal come to.
@@ -35,18 +35,13 @@ fn drawn_alone_clause(never: Clause) -> Clause
 pub fn drawn(lines: &[Line], n: u16, m: u16) -> Result<Line, Fault>
     ensures { SealedDraft lines.now (draw n m) result }
 {
-    let numbers = [n, m];
-    Named {
-        lines,
-        numbers: &numbers,
-    }
-    .check(None)?;
+    check_named(lines, None, &[n, m])?;
     let never = line_at(lines, n);
     let eventuality = line_at(lines, m);
     check_drawn(never.clause, eventuality.clause)?;
     Ok(Line::citing(
         drawn_clause(never.clause, eventuality.clause),
-        &numbers,
+        &[n, m],
         false,
     ))
 }
@@ -55,13 +50,8 @@ pub fn drawn(lines: &[Line], n: u16, m: u16) -> Result<Line, Fault>
 pub fn drawn_alone(lines: &[Line], n: u16) -> Result<Line, Fault>
     ensures { SealedDraft lines.now (draw_alone n) result }
 {
-    let numbers = [n];
-    Named {
-        lines,
-        numbers: &numbers,
-    }
-    .check(None)?;
+    check_named(lines, None, &[n])?;
     let never = line_at(lines, n);
     check_never(never.clause)?;
-    Ok(Line::citing(drawn_alone_clause(never.clause), &numbers, false))
+    Ok(Line::citing(drawn_alone_clause(never.clause), &[n], false))
 }

@@ -9,7 +9,7 @@ use crate::kinds::check_eventuality;
 use clause::refusal::{Fault, Refusal};
 use clause::syntax::{Clause, LitSet, Literal};
 use lines::line::Line;
-use lines::named::Named;
+use lines::named::check_named;
 use lines::places::line_at;
 
 // What an eventuality becomes with the letter that waits for its literal.
@@ -34,15 +34,10 @@ fn waits_clause(l: Literal) -> Clause
 pub fn waited(lines: &[Line], n: u16) -> Result<Line, Fault>
     ensures { SealedDraft lines.now (wait_line n) result }
 {
-    let numbers = [n];
-    Named {
-        lines,
-        numbers: &numbers,
-    }
-    .check(None)?;
+    check_named(lines, None, &[n])?;
     let line = line_at(lines, n);
     check_eventuality(line.clause)?;
-    Ok(Line::citing(waited_clause(line.clause), &numbers, false))
+    Ok(Line::citing(waited_clause(line.clause), &[n], false))
 }
 
 // The line that a wait on a literal adds.

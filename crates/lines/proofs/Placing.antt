@@ -1,6 +1,6 @@
 -- Places as lines, and numbers copied in front of zeros.
 use Rattle.std.proofs.Common.{◌≡◌, ℕ, zero, suc, ◌+◌, ◌-◌, ◌<◌, ◌≤◌, List, [], ◌∷◌, ◌++◌, length, get_or, take, drop, replicate, sym, refl, ap, ◌∙◌, subst, ⊎_elim, arith}
-use Rattle.std.proofs.lemmas.List.{get_or-map, get_or_past, length-map, drop-replicate, take_all, take-append-le}
+use Rattle.std.proofs.lemmas.List.{get_or-map, get_or_past, length-map, drop-replicate, take_all, take-append-le, length-take-le, append-nil}
 use denote.Param.Members.{Mut, Called}
 use Rattle.std.specs.Array.{IsFromFnResult, IsFromFnResultFrom}
 use Rattle.std.specs.List.{AllByRecursion}
@@ -39,6 +39,15 @@ front_padded d xs ys m h e w =
     ap (λ zs. zs ++ drop (length (take m xs)) (replicate 8 d)) (w ∙ a)
     ∙ ap (λ zs. xs ++ drop (length zs) (replicate 8 d)) a
     ∙ ap (λ zs. xs ++ zs) (drop-replicate (length xs) 8 d)
+
+pub front_full : {X : Type 0} (d : X) (xs ys : List X) (m : ℕ) → 8 ≤ length xs → m ≡ 8 → ys ≡ take m xs → ys ++ drop (length (take m xs)) (replicate 8 d) ≡ take 8 xs
+front_full d xs ys m h e w =
+    ap (λ zs. zs ++ drop (length (take m xs)) (replicate 8 d)) w
+    ∙ ap (λ k. take m xs ++ drop k (replicate 8 d)) (length-take-le m xs (omega arith))
+    ∙ ap (λ zs. take m xs ++ zs) (drop-replicate m 8 d)
+    ∙ ap (λ k. take m xs ++ replicate (8 - k) d) e
+    ∙ append-nil (take m xs)
+    ∙ ap (λ k. take k xs) e
 
 -- the place at i is line i + 1, and past the last there is a blank one
 pub line_here : (t : List Line) (n i : ℕ) (x : Line) → i ≡ n - 1 → i < length t → x ≡ get_or t i x → line_of x ≡ model.line_at (lines_of t) n

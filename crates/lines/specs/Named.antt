@@ -1,5 +1,5 @@
 -- Tests of the lines that a call names.
-use Rattle.std.specs.Prelude.{◌≡◌, ℕ, ◌+◌, ◌<◌, Bool, true, false, List, length, Some, None, Ok, Err, Option, Result, nat_le}
+use Rattle.std.specs.Prelude.{◌≡◌, ℕ, ◌+◌, ◌<◌, ◌≤◌, Bool, true, false, List, length, Some, None, Ok, Err, Option, Result, nat_le}
 use Rattle.clause.specs.declared.refusal.Fault.{Fault}
 use Rattle.clause.specs.declared.syntax.LitSet.{LitSet}
 use Rattle.protocol.specs.State as model
@@ -15,9 +15,9 @@ abbrev pub from_on : Option ℕ → ℕ → Bool
 from_on None n = false
 from_on (Some first) n = nat_le first n
 
--- a stage whose open loop begins at first, if there is one
-abbrev pub LoopFrom : Option ℕ → model.Stage → Type 0
-LoopFrom first st = (n : ℕ) → model.in_loop st n ≡ from_on first n
+-- a stage whose open loop begins at first, if there is one, as far as line last
+abbrev pub LoopFrom : Option ℕ → ℕ → model.Stage → Type 0
+LoopFrom first last st = (n : ℕ) → n ≤ last → model.in_loop st n ≡ from_on first n
 
 abbrev pub at_stage : model.Stage → ℕ → List model.Line → model.State
 at_stage st g ls = record { stage = st; given = g; lines = ls }

@@ -42,7 +42,7 @@ impl Named<'_> {
             .position(|(n, guard)| !fits(line_at(self.lines, *n).clause, *guard))
     }
 
-    // The place, from 1, of the lowest guard that its cover does not fit, of at most 8.
+    // The place, from 1, of the lowest guard that its cover does not fit.
     pub fn unfit(&self, guards: &[LitSet]) -> Option<u16>
         ensures { length self.now.numbers.now ≡ length guards.now → length self.now.numbers.now ≤ 8 → UnfitPlace (lines_of self.now.lines.now) self.now.numbers.now guards.now result }
     {

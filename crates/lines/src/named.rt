@@ -28,6 +28,13 @@ fn in_loop(first: Option<u16>, n: u16) -> bool
     first.is_some_and(|f| f <= n)
 }
 
+// Tests the lines that a call names, by their numbers, as `Named` does.
+pub fn check_named(lines: &[Line], first: Option<u16>, numbers: &[u16]) -> Result<(), Fault>
+    ensures { (st : Stage) (g : ℕ) → LoopFrom first (length lines.now) st → Checked (named_causes (at_stage st g (lines_of lines.now)) numbers.now) result }
+{
+    Named { lines, numbers }.check(first)
+}
+
 impl Named<'_> {
     // Is some number not of a line?
     fn some_outside(&self) -> bool
@@ -49,7 +56,7 @@ impl Named<'_> {
 
     // Tests that each number is of a line, and then that each line is in force, where the open loop begins at `first`.
     pub fn check(&self, first: Option<u16>) -> Result<(), Fault>
-        ensures { (st : Stage) (g : ℕ) → LoopFrom first st → Checked (named_causes (at_stage st g (lines_of self.now.lines.now)) self.now.numbers.now) result }
+        ensures { (st : Stage) (g : ℕ) → LoopFrom first (length self.now.lines.now) st → Checked (named_causes (at_stage st g (lines_of self.now.lines.now)) self.now.numbers.now) result }
     {
         if self.some_outside() {
             return Err(Fault::of(Refusal::NoSuchLine));

@@ -1,4 +1,4 @@
-ghost use Rattle.std.specs.Prelude.{◌≡◌, ℕ, ◌-◌, ◌≤◌, List, ◌++◌, length, replicate};
+ghost use Rattle.std.specs.Prelude.{◌≡◌, ℕ, ◌-◌, ◌≤◌, List, ◌++◌, length, take, replicate};
 ghost use Rattle.clause.specs.Sets.{Narrow};
 ghost use Rattle.protocol.specs.State.{line_at};
 ghost use Rattle.lines.specs.View.{line_of, lines_of, Tidy, IsBlank};
@@ -8,7 +8,8 @@ use clause::syntax::{Clause, LitSet};
 
 // The first 8 of the items, with fillers after them.
 pub fn first_8<T: Copy>(items: &[T], filler: T) -> [T; 8]
-    ensures { length items.now ≤ 8 → result ≡ items.now ++ replicate (8 - length items.now) filler }
+    ensures few { length items.now ≤ 8 → result ≡ items.now ++ replicate (8 - length items.now) filler }
+    ensures many { 8 ≤ length items.now → result ≡ take 8 items.now }
 {
     let front = &items[..items.len().min(8)];
     let mut out = [filler; 8];

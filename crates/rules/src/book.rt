@@ -9,7 +9,7 @@ use clause::syntax::{Clause, LitSet};
 // bit for each cited line, the first lowest, that is 1 where the line is used at every moment.
 pub type Masks = (bool, u64, u64, u64, u64, u8);
 
-// The answer that concludes an initial line: nothing of it holds at later moments, and each cited line is used at its moment.
+// The answer that concludes an initial line, which says nothing of a next moment; each cited line is used at its moment.
 pub fn initially(set: LitSet) -> Masks
     ensures { result ≡ (true, set.plus, set.minus, 0, 0, 0) }
 {
