@@ -14,11 +14,10 @@ pub struct Numbers {
     pub count: u8,
 }
 
-// The letters of a world: those from 0 to 19 as a mask, and whether there is one above.
+// The letters of a world, from 0 to 19, as a mask; there is none where one letter is above.
 #[derive(Clone, Copy)]
 pub struct Letters {
-    pub mask: u32,
-    pub over: bool,
+    pub mask: Option<u32>,
 }
 
 impl Numbers {
@@ -48,24 +47,18 @@ impl Numbers {
 }
 
 impl Letters {
-    const NONE: Letters = Letters {
-        mask: 0,
-        over: false,
-    };
+    const NONE: Letters = Letters { mask: Some(0) };
 
+    // One letter more.
     fn with(self, n: u16) -> Letters
         ensures { result ≡ with_letter self n }
     {
         if n < 20 {
             Letters {
-                mask: self.mask | 1u32 << n,
-                over: self.over,
+                mask: self.mask.map(|mask| mask | 1 << n),
             }
         } else {
-            Letters {
-                mask: self.mask,
-                over: true,
-            }
+            Letters { mask: None }
         }
     }
 }

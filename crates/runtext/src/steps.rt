@@ -33,11 +33,9 @@ fn tell(w: WorldTable, n: u16, letters: Letters) -> Result<RunStage, Fault>
     if n >= w.lead_in() + w.loop_length() {
         return Err(Fault::of(Refusal::WrongState));
     }
-    if letters.over {
-        return Err(misread(Refusal::LetterRange, 2));
-    }
+    let mask = letters.mask.ok_or(misread(Refusal::LetterRange, 2))?;
     Ok(RunStage::Telling {
-        table: told(w, n, letters.mask),
+        table: told(w, n, mask),
         told: n + 1,
     })
 }
