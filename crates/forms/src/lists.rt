@@ -32,7 +32,7 @@ impl Numbers {
     {
         let mut numbers = self;
         if numbers.count < 9 {
-            numbers.at[numbers.count as usize] = n;
+            numbers.at[usize::from(numbers.count)] = n;
             numbers.count += 1;
         }
         numbers
@@ -42,7 +42,7 @@ impl Numbers {
     pub fn as_slice(&self) -> &[u16]
         ensures { result.now ≡ take (min self.now.count 9) self.now.at }
     {
-        &self.at[..self.count.min(9) as usize]
+        &self.at[..usize::from(self.count.min(9))]
     }
 }
 
@@ -86,11 +86,7 @@ fn rising_letters(field: &[u8]) -> Option<Letters>
         (Letters::NONE, None),
         |(so_far, before): (Letters, Option<u32>), n: u16| {
             let rank = u32::from(n);
-            if rises(before, rank) {
-                Some((so_far.with(n), Some(rank)))
-            } else {
-                None
-            }
+            rises(before, rank).then(|| (so_far.with(n), Some(rank)))
         },
     );
     Some(found?.0)
