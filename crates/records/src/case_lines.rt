@@ -35,16 +35,18 @@ fn read_by(key: u8, line: TextLine) -> Result<Record, Fault>
         'S' => line.bare().map(|_| Record::Seal),
         'W' => line.one().map(Record::WaitLine),
         'V' => line.one().map(Record::WaitLiteral),
-        'R' => line.three().map(|(first, second, letter)| Record::Resolve { first, second, letter }),
+        'R' => line.three().map(|(first, second, letter)| Record::Resolve {
+            first,
+            second,
+            letter,
+        }),
         'T' => line
             .three()
             .map(|(now, next, lines)| Record::Trial(now, next, lines)),
         'O' => open_loop(line),
         'C' => line.one().map(Record::CloseLoop),
         'A' => line.bare().map(|_| Record::Abandon),
-        'N' => line
-            .two()
-            .map(|(never, eventuality)| Record::DrawFor { never, eventuality }),
+        'N' => line.two().map(|(never, eventuality)| Record::DrawFor { never, eventuality }),
         'M' => line.one().map(Record::Draw),
         'X' => line.one().map(Record::Refute),
         _ => Err(misread(Refusal::UnknownKey, 0)),

@@ -64,8 +64,16 @@ pub enum Record {
 // What a line of a run text says.
 #[derive(Clone, Copy)]
 pub enum RunRecord {
-    Worlds { lead: u16, turn: u16 },
+    Worlds {
+        lead: u16,
+        turn: u16,
+    },
     World(Letters),
     Tasks,
-    Task { letter: u8, offset: u16, period: u16, length: u16 },
+    Task {
+        letter: u8,
+        offset: u16,
+        period: u16,
+        length: u16,
+    },
 }

@@ -12,7 +12,9 @@ fn read_by(key: u8, line: TextLine) -> Result<RunRecord, Fault>
     ensures { result ≡ run_by_key key (split 9 line.entry.text.now) line.entry.ended }
 {
     match key as char {
-        'D' => line.two().map(|(lead, turn)| RunRecord::Worlds { lead, turn }),
+        'D' => line
+            .two()
+            .map(|(lead, turn)| RunRecord::Worlds { lead, turn }),
         'U' => line.one().map(RunRecord::World),
         'H' => line.bare().map(|_| RunRecord::Tasks),
         'K' => line.four().map(|(letter, offset, period, length)| RunRecord::Task {

@@ -76,9 +76,15 @@ pub(crate) fn run_step(stage: RunStage, what: RunRecord) -> Result<RunStage, Fau
         (RunStage::Telling { table, told }, RunRecord::World(letters)) => tell(
             table, told, letters,
         ),
-        (RunStage::Timing(t), RunRecord::Task { letter, offset, period, length }) => {
-            assign(t, letter, offset, period, length)
-        }
+        (
+            RunStage::Timing(t),
+            RunRecord::Task {
+                letter,
+                offset,
+                period,
+                length,
+            },
+        ) => { assign(t, letter, offset, period, length) }
         _ => Err(Fault::of(Refusal::WrongState)),
     }
 }

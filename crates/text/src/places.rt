@@ -29,7 +29,11 @@ fn letter_field(what: Record) -> u16
         Record::WaitLiteral(_) => 2,
         Record::Resolve { .. } => 4,
         Record::Trial(now, _, _) => if now.over(59) { 2 } else { 3 },
-        Record::OpenLoop(l, guards) => if l.letter > 19 { 2 } else { guards.over.unwrap_or(0) },
+        Record::OpenLoop(l, guards) => if l.letter > 19 {
+            2
+        } else {
+            guards.over.unwrap_or(0)
+        },
         _ => 0,
     }
 }

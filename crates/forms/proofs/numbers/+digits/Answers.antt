@@ -11,7 +11,7 @@ returns-in-48-to-57 t c =
     let xs = c.args.text.now in let some : 0 < length xs = search rules in
     let n = c.args.before in
     let step : lead (digits_of n) (split 32 xs) ≡ lead (digits_of (n * 10 + c.from.result)) (split 32 (rest xs)) =
-        digits_step n xs some (search rules) (search rules) (search rules) ∙ ap (λ d. lead (digits_of (n * 10 + d)) (split 32 (rest xs))) (sym c.from.ensures) in
+    digits_step n xs some (search rules) (search rules) (search rules) ∙ ap (λ d. lead (digits_of (n * 10 + d)) (split 32 (rest xs))) (sym c.from.ensures) in
     leads_by (λ s. s.now) _ _ _ _ c.digits.result step (rest_within xs some) c.digits.ensures
 
 pub returns-in_default : goal.returns-in_default

@@ -15,7 +15,7 @@ pub returns-in-49-to-57 : goal.returns-in-49-to-57
 returns-in-49-to-57 c =
     let xs = c.args.text.now in let some : 0 < length xs = search rules in
     let first : lead number_of (split 32 xs) ≡ lead (digits_of c.from.result) (split 32 (rest xs)) =
-        number_first xs some (search rules) (search rules) ∙ ap (λ d. lead (digits_of d) (split 32 (rest xs))) (sym c.from.ensures) in
+    number_first xs some (search rules) (search rules) ∙ ap (λ d. lead (digits_of d) (split 32 (rest xs))) (sym c.from.ensures) in
     leads_by (λ s. s.now) _ _ _ _ c.digits.result first (rest_within xs some) c.digits.ensures
 
 pub returns-in_default : goal.returns-in_default
