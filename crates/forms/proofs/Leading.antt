@@ -1,7 +1,8 @@
 -- The first part of a text, read byte by byte.
-use Rattle.std.proofs.Common.{◌≡◌, ℕ, ◌+◌, ◌-◌, ◌*◌, ◌<◌, ◌≤◌, Bool, true, false, ◌⊎◌, List, [], ◌∷◌, length, get_or, take, drop, Some, None, Option, sym, refl, ap, ◌∙◌, ⊎_elim, arith, take_all}
+use Rattle.std.proofs.Common.{◌≡◌, ℕ, ◌+◌, ◌-◌, ◌*◌, ◌<◌, ◌≤◌, Bool, true, false, not, is_some, ◌⊎◌, List, [], ◌∷◌, length, get_or, take, drop, Some, None, Option, sym, refl, ap, ◌∙◌, ⊎_elim, arith, take_all}
 use Rattle.std.proofs.lemmas.Bool.{cases_eq}
 use Rattle.std.proofs.lemmas.Bool.Decides.{nat_tests}
+use Rattle.std.specs.Bool.{then_some}
 use Rattle.std.specs.List.{onto_first}
 use Rattle.forms.specs.Cuts.{split}
 use Rattle.forms.specs.Fields.{and_then}
@@ -182,6 +183,11 @@ sole_two f p (q ∷ qs) h = refl
 
 pub sole_more : {A : Type 0} (f : List ℕ → Option A) (ps : List (List ℕ)) (w : A) (xs : List ℕ) → lead f ps ≡ Some (w, split 32 xs) → None ≡ sole f ps
 sole_more f ps w xs h = let q = lead_parts f ps (split 32 xs) w h in sym (ap (sole f) q.1 ∙ sole_two f q.0 (split 32 xs) (split_some 32 xs))
+
+-- the one part of a field, where no text is left after it
+pub sole_left : {A S : Type 0} (text : S → List ℕ) (f : List ℕ → Option A) (ps : List (List ℕ)) (bound : ℕ) (w : A) (after : Option S) → Left text (lead f ps) bound w after → then_some (not (is_some after)) w ≡ sole f ps
+sole_left text f ps bound w None h = sym (sole_one f ps w h)
+sole_left text f ps bound w (Some s) h = sole_more f ps w (text s) h.0
 
 -- a number with its sign
 pub signed_none : (s : Bool) (ps : List (List ℕ)) → lead number_of ps ≡ None → lead (signed s) ps ≡ None

@@ -14,11 +14,10 @@ pub struct Numbers {
     pub count: u8,
 }
 
-// The letters of a world: those from 0 to 19 as a mask, and whether there is one above.
+// The letters of a world, from 0 to 19, as a mask; there is none where one letter is above.
 #[derive(Clone, Copy)]
 pub struct Letters {
-    pub mask: u32,
-    pub over: bool,
+    pub mask: Option<u32>,
 }
 
 impl Numbers {
@@ -33,7 +32,7 @@ impl Numbers {
     {
         let mut numbers = self;
         if numbers.count < 9 {
-            numbers.at[numbers.count as usize] = n;
+            numbers.at[usize::from(numbers.count)] = n;
             numbers.count += 1;
         }
         numbers
@@ -43,29 +42,23 @@ impl Numbers {
     pub fn as_slice(&self) -> &[u16]
         ensures { result.now ≡ take (min self.now.count 9) self.now.at }
     {
-        &self.at[..self.count.min(9) as usize]
+        &self.at[..usize::from(self.count.min(9))]
     }
 }
 
 impl Letters {
-    const NONE: Letters = Letters {
-        mask: 0,
-        over: false,
-    };
+    const NONE: Letters = Letters { mask: Some(0) };
 
+    // One letter more.
     fn with(self, n: u16) -> Letters
         ensures { result ≡ with_letter self n }
     {
         if n < 20 {
             Letters {
-                mask: self.mask | 1u32 << n,
-                over: self.over,
+                mask: self.mask.map(|mask| mask | 1 << n),
             }
         } else {
-            Letters {
-                mask: self.mask,
-                over: true,
-            }
+            Letters { mask: None }
         }
     }
 }
@@ -93,11 +86,7 @@ fn rising_letters(field: &[u8]) -> Option<Letters>
         (Letters::NONE, None),
         |(so_far, before): (Letters, Option<u32>), n: u16| {
             let rank = u32::from(n);
-            if rises(before, rank) {
-                Some((so_far.with(n), Some(rank)))
-            } else {
-                None
-            }
+            rises(before, rank).then(|| (so_far.with(n), Some(rank)))
         },
     );
     Some(found?.0)

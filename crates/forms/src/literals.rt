@@ -49,11 +49,7 @@ impl Written {
         ensures exact { result ≡ the_rank self }
         ensures small { result ≤ 131071 }
     {
-        if self.positive {
-            2 * self.letter as u32
-        } else {
-            2 * self.letter as u32 + 1
-        }
+        2 * u32::from(self.letter) + u32::from(!self.positive)
     }
 }
 
@@ -72,11 +68,7 @@ fn literals(field: &[u8]) -> Option<LitSet>
         field,
         (LitSet::NONE, None),
         |(so_far, before): (LitSet, Option<u32>), w: Written| {
-            if rises(before, w.rank()) {
-                Some((so_far.union(LitSet::of(w.kept())), Some(w.rank())))
-            } else {
-                None
-            }
+            rises(before, w.rank()).then(|| (so_far.union(LitSet::of(w.kept())), Some(w.rank())))
         },
     );
     Some(found?.0)

@@ -22,7 +22,7 @@ fn digits(before: u16, text: &[u8]) -> Option<(u16, Option<&[u8]>)>
 {
     match text {
         [d @ b'0'..=b'9', rest @ ..] if before < 1000 => digits(
-            before * 10 + (*d - b'0') as u16,
+            before * 10 + u16::from(*d - b'0'),
             rest,
         ),
         _ => alone(before, text),
@@ -35,7 +35,7 @@ pub fn lead_number(text: &[u8]) -> Option<(u16, Option<&[u8]>)>
 {
     match text {
         [b'0', rest @ ..] => alone(0, rest),
-        [d @ b'1'..=b'9', rest @ ..] => digits((*d - b'0') as u16, rest),
+        [d @ b'1'..=b'9', rest @ ..] => digits(u16::from(*d - b'0'), rest),
         _ => None,
     }
 }

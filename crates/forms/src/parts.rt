@@ -35,10 +35,7 @@ pub(crate) fn sole<T: Part + Drop>(field: &[u8]) -> Option<T>
     ensures { result ≡ the_sole T.form (split 32 field.now) }
 {
     let (part, after) = T::lead(field)?;
-    match after {
-        None => Some(part),
-        Some(_) => None,
-    }
+    after.is_none().then_some(part)
 }
 
 // A state taken through the parts of a field, one after another.
@@ -66,8 +63,5 @@ pub(crate) fn fold_parts<T: Part, S: Drop, F: Fn(S, T) -> Option<S> + Drop>(
 pub(crate) fn rises(before: Option<u32>, rank: u32) -> bool
     ensures { result ≡ the_rises before rank }
 {
-    match before {
-        None => true,
-        Some(last) => last < rank,
-    }
+    before.is_none_or(|last| last < rank)
 }

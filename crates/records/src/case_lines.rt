@@ -35,26 +35,28 @@ fn read_by(key: u8, line: TextLine) -> Result<Record, Fault>
         'S' => line.bare().map(|_| Record::Seal),
         'W' => line.one().map(Record::WaitLine),
         'V' => line.one().map(Record::WaitLiteral),
-        'R' => line.three().map(|(first, second, letter)| Record::Resolve(first, second, letter)),
+        'R' => line.three().map(|(first, second, letter)| Record::Resolve {
+            first,
+            second,
+            letter,
+        }),
         'T' => line
             .three()
             .map(|(now, next, lines)| Record::Trial(now, next, lines)),
         'O' => open_loop(line),
         'C' => line.one().map(Record::CloseLoop),
         'A' => line.bare().map(|_| Record::Abandon),
-        'N' => line
-            .two()
-            .map(|(never, eventuality)| Record::DrawFor(never, eventuality)),
+        'N' => line.two().map(|(never, eventuality)| Record::DrawFor { never, eventuality }),
         'M' => line.one().map(Record::Draw),
         'X' => line.one().map(Record::Refute),
         _ => Err(misread(Refusal::UnknownKey, 0)),
     }
 }
 
-// The record of a line of a case text without its end; `ended` says whether the end is there.
-pub fn read_line(line: &[u8], ended: bool) -> Result<Record, Fault>
-    ensures { result ≡ record_of line.now ended }
+// The record of a line of a case text.
+pub fn read_line(line: TextLine) -> Result<Record, Fault>
+    ensures { result ≡ record_of line.entry.text.now line.entry.ended }
 {
-    let key = key(line).ok_or(misread(Refusal::UnknownKey, 0))?;
-    read_by(key, TextLine { text: line, ended })
+    let key = key(line.text).ok_or(misread(Refusal::UnknownKey, 0))?;
+    read_by(key, line)
 }

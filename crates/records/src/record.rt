@@ -26,7 +26,7 @@ impl Guards {
         ensures { result ≡ with_guard self k s }
     {
         let mut guards = self;
-        let place = guards.count.min(8) as usize;
+        let place = usize::from(guards.count.min(8));
         let before = guards.at[place];
         guards.at[place] = before.union(s);
         guards.count = guards.count.min(8) + 1;
@@ -40,7 +40,7 @@ impl Guards {
     pub fn as_slice(&self) -> &[LitSet]
         ensures { result.now ≡ take (min self.now.count 9) self.now.at }
     {
-        &self.at[..self.count.min(9) as usize]
+        &self.at[..usize::from(self.count.min(9))]
     }
 }
 
@@ -51,12 +51,12 @@ pub enum Record {
     Seal,
     WaitLine(u16),
     WaitLiteral(Literal),
-    Resolve(u16, u16, u8),
+    Resolve { first: u16, second: u16, letter: u8 },
     Trial(LitSet, LitSet, Numbers),
     OpenLoop(Literal, Guards),
     CloseLoop(Numbers),
     Abandon,
-    DrawFor(u16, u16),
+    DrawFor { never: u16, eventuality: u16 },
     Draw(u16),
     Refute(u16),
 }
@@ -64,8 +64,16 @@ pub enum Record {
 // What a line of a run text says.
 #[derive(Clone, Copy)]
 pub enum RunRecord {
-    Worlds(u16, u16),
+    Worlds {
+        lead: u16,
+        turn: u16,
+    },
     World(Letters),
     Tasks,
-    Task(u8, u16, u16, u16),
+    Task {
+        letter: u8,
+        offset: u16,
+        period: u16,
+        length: u16,
+    },
 }

@@ -12,20 +12,25 @@ fn read_by(key: u8, line: TextLine) -> Result<RunRecord, Fault>
     ensures { result ≡ run_by_key key (split 9 line.entry.text.now) line.entry.ended }
 {
     match key as char {
-        'D' => line.two().map(|(lead, turn)| RunRecord::Worlds(lead, turn)),
+        'D' => line
+            .two()
+            .map(|(lead, turn)| RunRecord::Worlds { lead, turn }),
         'U' => line.one().map(RunRecord::World),
         'H' => line.bare().map(|_| RunRecord::Tasks),
-        'K' => line.four().map(|(letter, offset, period, length)| RunRecord::Task(
-            letter, offset, period, length,
-        )),
+        'K' => line.four().map(|(letter, offset, period, length)| RunRecord::Task {
+            letter,
+            offset,
+            period,
+            length,
+        }),
         _ => Err(misread(Refusal::UnknownKey, 0)),
     }
 }
 
-// The record of a line of a run text without its end; `ended` says whether the end is there.
-pub fn read_run_line(line: &[u8], ended: bool) -> Result<RunRecord, Fault>
-    ensures { result ≡ run_record_of line.now ended }
+// The record of a line of a run text.
+pub fn read_run_line(line: TextLine) -> Result<RunRecord, Fault>
+    ensures { result ≡ run_record_of line.entry.text.now line.entry.ended }
 {
-    let key = key(line).ok_or(misread(Refusal::UnknownKey, 0))?;
-    read_by(key, TextLine { text: line, ended })
+    let key = key(line.text).ok_or(misread(Refusal::UnknownKey, 0))?;
+    read_by(key, line)
 }

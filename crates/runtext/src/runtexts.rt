@@ -8,16 +8,16 @@ use crate::steps::run_step;
 use clause::refusal::{Fault, Refusal};
 use records::run_lines::read_run_line;
 use runs::source::RunSource;
-use text::text_lines::{TextLine, TextLines, check_length};
+use text::text_lines::{NumberedLine, TextLines, check_length};
 
 // A line of a run text.
-fn take_run_line(line: TextLine, stage: RunStage) -> Result<RunStage, Fault>
-    ensures exact { RunLine line.entry.number line.entry.bytes.now line.entry.ended stage result }
-    ensures some { OnOk result (0 < length line.entry.bytes.now) }
+fn take_run_line(numbered: NumberedLine, stage: RunStage) -> Result<RunStage, Fault>
+    ensures exact { RunLine numbered.entry.number numbered.entry.line.text.now numbered.entry.line.ended stage result }
+    ensures some { OnOk result (0 < length numbered.entry.line.text.now) }
 {
-    read_run_line(line.bytes, line.ended)
+    read_run_line(numbered.line)
         .and_then(|what| run_step(stage, what))
-        .map_err(|f| f.placed(line.number, f.field))
+        .map_err(|f| f.placed(numbered.number, f.field))
 }
 
 // The end of a run text before line n: a world too few is refused.

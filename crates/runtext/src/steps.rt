@@ -18,7 +18,7 @@ fn told(w: WorldTable, n: u16, letters: u32) -> WorldTable
 {
     let mut table = w;
     for k in 0..20u8 {
-        let yes = bit_at(letters as u64, k);
+        let yes = bit_at(u64::from(letters), k);
         let Ok(_) = table.change(n, k, yes) else {
             unreachable()
         };
@@ -33,11 +33,9 @@ fn tell(w: WorldTable, n: u16, letters: Letters) -> Result<RunStage, Fault>
     if n >= w.lead_in() + w.loop_length() {
         return Err(Fault::of(Refusal::WrongState));
     }
-    if letters.over {
-        return Err(misread(Refusal::LetterRange, 2));
-    }
+    let mask = letters.mask.ok_or(misread(Refusal::LetterRange, 2))?;
     Ok(RunStage::Telling {
-        table: told(w, n, letters.mask),
+        table: told(w, n, mask),
         told: n + 1,
     })
 }
@@ -73,14 +71,20 @@ pub(crate) fn run_step(stage: RunStage, what: RunRecord) -> Result<RunStage, Fau
     ensures { RunStep stage what result }
 {
     match (stage, what) {
-        (RunStage::Start, RunRecord::Worlds(lead, turn)) => begin(lead, turn),
+        (RunStage::Start, RunRecord::Worlds { lead, turn }) => begin(lead, turn),
         (RunStage::Start, RunRecord::Tasks) => Ok(RunStage::Timing(Timetable::new())),
         (RunStage::Telling { table, told }, RunRecord::World(letters)) => tell(
             table, told, letters,
         ),
-        (RunStage::Timing(t), RunRecord::Task(letter, offset, period, length)) => {
-            assign(t, letter, offset, period, length)
-        }
+        (
+            RunStage::Timing(t),
+            RunRecord::Task {
+                letter,
+                offset,
+                period,
+                length,
+            },
+        ) => { assign(t, letter, offset, period, length) }
         _ => Err(Fault::of(Refusal::WrongState)),
     }
 }

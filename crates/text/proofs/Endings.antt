@@ -1,5 +1,7 @@
 -- Lines of a text, and what reading them comes to.
-use Rattle.std.proofs.Common.{◌≡◌, ℕ, ◌+◌, ◌<◌, ◌≤◌, Bool, true, false, List, [], ◌∷◌, length, IfOk, None, Ok, Err, Result, sym, refl, ap, ◌∙◌, subst, ⊎_elim, arith}
+use Rattle.std.proofs.Common.{◌≡◌, ℕ, ◌+◌, ◌<◌, ◌≤◌, Bool, true, false, List, [], ◌∷◌, length, is_some, IfOk, MatchOption, Some, None, Ok, Err, Option, Result, sym, refl, ap, ◌∙◌, subst, ⊎_elim, arith}
+use Rattle.std.specs.Borrow.{Bor}
+use Rattle.std.specs.Option.{unwrap_or}
 use Rattle.std.proofs.lemmas.Bool.{cond-false, ne_eqb, eq-eqb, lt-leb, le-leb}
 use Rattle.clause.specs.declared.refusal.Fault.{Fault}
 use Rattle.clause.specs.declared.refusal.Refusal.TheVariants.{UnknownKey, WrongState}
@@ -37,11 +39,29 @@ in_more : (p : List ℕ) (ps : List (List ℕ)) → 0 < length ps → lines_in (
 in_more p [] h = absurd (omega arith)
 in_more p (q ∷ ps) h = refl
 
-pub lines_more : (text line rest : List ℕ) → split 10 text ≡ line ∷ split 10 rest → lines text ≡ (line, true) ∷ lines rest
+lines_more : (text line rest : List ℕ) → split 10 text ≡ line ∷ split 10 rest → lines text ≡ (line, true) ∷ lines rest
 lines_more text line rest e = ap lines_in e ∙ in_more line (split 10 rest) (split_some 10 rest)
 
-pub lines_last : (text line : List ℕ) → split 10 text ≡ line ∷ [] → line ≡ text → (length text ≡ 0 → ⊥) → lines text ≡ (line, false) ∷ []
+lines_last : (text line : List ℕ) → split 10 text ≡ line ∷ [] → line ≡ text → (length text ≡ 0 → ⊥) → lines text ≡ (line, false) ∷ []
 lines_last text line e q h = ap lines_in e ∙ cond-false _ _ _ (ne_eqb (length line) 0 (λ z. h (sym (ap length q) ∙ z)))
+
+-- the first line of a text, cut off at its end, and what is left
+pub first_line : (text line : List ℕ) (after : Option (Bor (List ℕ))) (nothing rest : Bor (List ℕ)) (ended : Bool)
+    → rest ≡ unwrap_or after nothing → ended ≡ is_some after → nothing.now ≡ [] → (length text ≡ 0 → ⊥)
+    → MatchOption after ((split 10 text ≡ line ∷ []) × (line ≡ text)) (λ s. (split 10 text ≡ line ∷ split 10 s.now) × (length line + 1 + length s.now ≡ length text))
+    → (lines text ≡ (line, ended) ∷ lines rest.now) × (length rest.now < length text) × (0 < length rest.now → length line + 1 + length rest.now ≡ length text)
+first_line text line None nothing rest ended r d e h q =
+    let n : rest.now ≡ [] = ap (λ (z : Bor (List ℕ)). z.now) r ∙ e in let l : length rest.now ≡ 0 = ap length n in (
+      lines_last text line q.0 q.1 h ∙ ap (λ (xs : List ℕ). (line, false) ∷ lines xs) (sym n) ∙ ap (λ b. (line, b) ∷ lines rest.now) (sym d),
+      omega (arith, l, h),
+      λ some. omega (arith, l, some),
+    )
+first_line text line (Some s) nothing rest ended r d e h q =
+    let n : s.now ≡ rest.now = ap (λ (z : Bor (List ℕ)). z.now) (sym r) in let m : length line + 1 + length rest.now ≡ length text = ap (λ (xs : List ℕ). length line + 1 + length xs) (sym n) ∙ q.1 in (
+      lines_more text line s.now q.0 ∙ ap (λ (xs : List ℕ). (line, true) ∷ lines xs) n ∙ ap (λ b. (line, b) ∷ lines rest.now) (sym d),
+      omega (arith, m),
+      λ _. m,
+    )
 
 -- a stage that calls led to stands in its table
 pub held_view : (st : Stage) (t : List Line) → length t ≡ 1000 → LedTo (view st t) t → Held (view st t) t

@@ -1,5 +1,5 @@
 -- Numbers of lines, and records that are answered.
-use Rattle.std.proofs.Common.{◌≡◌, ℕ, ◌≤◌, List, length, take, Some, None, Ok, Err, Option, Result, refl, sym, ap, ◌∙◌, subst, arith}
+use Rattle.std.proofs.Common.{◌≡◌, ℕ, List, length, take, Some, None, Ok, Err, Option, Result, refl, sym, ap, ◌∙◌, subst, arith}
 use Rattle.clause.specs.Refusals.{placed}
 use Rattle.std.proofs.lemmas.List.{length-map}
 use Rattle.clause.specs.declared.refusal.Fault.{Fault}
@@ -15,7 +15,7 @@ use Rattle.records.specs.declared.record.Record.{Record}
 use Rattle.records.specs.declared.record.Record.TheVariants.{Give, Seal, WaitLine, WaitLiteral, Resolve, Trial, OpenLoop, CloseLoop, Abandon, DrawFor, Draw, Refute}
 use Rattle.text.specs.Calls.{view, call_of, answer, Did, Step}
 use Rattle.text.specs.Fields.{field_of}
-use Rattle.text.specs.Reading.{Found, found, Judged, first_of}
+use Rattle.text.specs.Reading.{Found, Judged, first_of}
 
 pub lines_length : (t : List Line) → length (lines_of t) ≡ length t
 lines_length t = length-map t line_of

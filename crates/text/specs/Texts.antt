@@ -3,7 +3,7 @@ use Rattle.std.specs.Prelude.{◌≡◌, ℕ, ◌+◌, ◌<◌, ◌≤◌, ◌�
 use Rattle.clause.specs.declared.refusal.Fault.{Fault}
 use Rattle.clause.specs.declared.refusal.Refusal.TheVariants.{TextTooLong, TextEmpty}
 use Rattle.clause.specs.Refusals.{plain}
-use Rattle.text.specs.declared.text_lines.TextLine.{TextLine}
+use Rattle.text.specs.declared.text_lines.NumberedLine.{NumberedLine}
 use Rattle.text.specs.declared.text_lines.TextLines.{TextLines}
 use Rattle.text.specs.Reading.{lines}
 
@@ -13,13 +13,13 @@ LengthChecked n (Ok _) = (1 ≤ n) × (n ≤ 65536)
 LengthChecked n (Err f) = ((65536 < n) × (f ≡ plain TextTooLong)) ⊎ ((n ≡ 0) × (f ≡ plain TextEmpty))
 
 -- a line was taken off the front
-pub record LineTaken (s : TextLines) (l : TextLine) (s' : TextLines) : Type 0 where
+pub record LineTaken (s : TextLines) (l : NumberedLine) (s' : TextLines) : Type 0 where
   pub number : l.number ≡ s.number
   pub next_number : s.number < 65535 → s'.number ≡ s.number + 1
-  pub front : lines s.rest.now ≡ (l.bytes.now, l.ended) ∷ lines s'.rest.now
+  pub front : lines s.rest.now ≡ (l.line.text.now, l.line.ended) ∷ lines s'.rest.now
   pub fewer : length s'.rest.now < length s.rest.now
-  pub parted : 0 < length s'.rest.now → length l.bytes.now + 1 + length s'.rest.now ≡ length s.rest.now
+  pub parted : 0 < length s'.rest.now → length l.line.text.now + 1 + length s'.rest.now ≡ length s.rest.now
 
-abbrev pub NextLine : TextLines → Option TextLine → TextLines → Type 0
+abbrev pub NextLine : TextLines → Option NumberedLine → TextLines → Type 0
 NextLine s None s' = (lines s.rest.now ≡ []) × (s' ≡ s)
 NextLine s (Some l) s' = LineTaken s l s'

@@ -27,7 +27,7 @@ fn letter_field(what: Record) -> u16
     match what {
         Record::Give(c) => first_over(c),
         Record::WaitLiteral(_) => 2,
-        Record::Resolve(_, _, _) => 4,
+        Record::Resolve { .. } => 4,
         Record::Trial(now, _, _) => if now.over(59) { 2 } else { 3 },
         Record::OpenLoop(l, guards) => if l.letter > 19 {
             2
@@ -44,7 +44,8 @@ fn line_field<F: Fn(u16) -> bool>(what: Record, refused: F) -> u16
     ensures { (p : ℕ → Bool) → ((n : ℕ) (yes : Bool) → F.post refused n yes → yes ≡ p n) → result ≡ the_line_field p what }
 {
     match what {
-        Record::Resolve(n, _, _) | Record::DrawFor(n, _) => if refused(n) { 2 } else { 3 },
+        Record::Resolve { first, .. } => if refused(first) { 2 } else { 3 },
+        Record::DrawFor { never, .. } => if refused(never) { 2 } else { 3 },
         Record::Trial(_, _, _) => 4,
         Record::WaitLine(_) | Record::CloseLoop(_) | Record::Draw(_) | Record::Refute(_) => 2,
         _ => 0,
@@ -54,7 +55,7 @@ fn line_field<F: Fn(u16) -> bool>(what: Record, refused: F) -> u16
 fn outside(lines: &[Line], n: u16) -> bool
     ensures { result ≡ the_outside (lines_of lines.now) n }
 {
-    n == 0 || lines.len() < n as usize
+    n == 0 || lines.len() < usize::from(n)
 }
 
 // Is the line resting, and before the first of the open loop?
@@ -69,12 +70,13 @@ fn unfit(what: Record, clause: Clause) -> bool
     ensures { result ≡ the_unfit what clause }
 {
     match what {
-        Record::DrawFor(_, _) => !matches!(clause, Clause::Never(_, _)),
+        Record::DrawFor { .. } => !matches!(clause, Clause::Never(_, _)),
         _ => matches!(clause, Clause::Never(_, _) | Clause::Eventuality(_, _)),
     }
 }
 
-// The first field that a call's refusal is about, the key being 1; 0 where it is about none.
+// The first field that a call's refusal is about, the key being 1.
+// A fault is told as five numbers, and 0 is the one that says nothing: it stands where the refusal is about no field.
 pub(crate) fn refused_field(
     lines: &[Line],
     first: Option<u16>,

@@ -5,7 +5,7 @@ ghost use Rattle.text.specs.Reading.{reached, known, Judged, LineRead};
 use crate::places::{found_after, refused_field};
 use crate::stage::{Refuted, Stage};
 use crate::steps::step;
-use crate::text_lines::TextLine;
+use crate::text_lines::NumberedLine;
 use clause::refusal::Fault;
 use lines::line::Line;
 use records::case_lines::read_line;
@@ -46,17 +46,17 @@ impl Reading {
     // A line of the text.
     pub(crate) fn take(
         self,
-        line: TextLine,
+        numbered: NumberedLine,
         table: &mut [Line; 1000],
         row: &mut [u16],
     ) -> Result<Reading, (Reading, Fault)>
-        ensures exact { LineRead line.entry.number line.entry.bytes.now line.entry.ended self.found (view self.stage table.old) row.old (known result) (view (reached result).stage table.new) row.new }
+        ensures exact { LineRead numbered.entry.number numbered.entry.line.text.now numbered.entry.line.ended self.found (view self.stage table.old) row.old (known result) (view (reached result).stage table.new) row.new }
         ensures onward { LeadsOn (view self.stage table.old) table.old (view (reached result).stage table.new) table.new }
-        ensures some { OnOk result (0 < length line.entry.bytes.now) }
+        ensures some { OnOk result (0 < length numbered.entry.line.text.now) }
     {
-        match read_line(line.bytes, line.ended) {
-            Err(f) => Err((self, f.placed(line.number, f.field))),
-            Ok(what) => self.call(what, line.number, table, row),
+        match read_line(numbered.line) {
+            Err(f) => Err((self, f.placed(numbered.number, f.field))),
+            Ok(what) => self.call(what, numbered.number, table, row),
         }
     }
 }

@@ -41,7 +41,7 @@ impl Stage {
     pub(crate) fn lines<'t>(&self, table: &'t [Line; 1000]) -> &'t [Line]
         ensures { lines_of result.now ≡ (view self.now table.now).lines }
     {
-        &table[..self.last() as usize]
+        &table[..usize::from(self.last())]
     }
 }
 

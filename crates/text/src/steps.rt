@@ -35,7 +35,14 @@ pub(crate) fn step(
             let answer = s.wait_literal(table, l);
             (Stage::Working(s), answer)
         }
-        (Stage::Working(mut s), Record::Resolve(first, second, letter)) => {
+        (
+            Stage::Working(mut s),
+            Record::Resolve {
+                first,
+                second,
+                letter,
+            },
+        ) => {
             let answer = s.infer(table, &Resolution, &[first, second], letter);
             (Stage::Working(s), answer)
         }
@@ -49,7 +56,7 @@ pub(crate) fn step(
                 Err((s, f)) => (Stage::Working(s), Err(f)),
             }
         }
-        (Stage::Working(mut s), Record::DrawFor(never, eventuality)) => {
+        (Stage::Working(mut s), Record::DrawFor { never, eventuality }) => {
             let answer = s.draw(table, never, eventuality);
             (Stage::Working(s), answer)
         }
@@ -61,7 +68,14 @@ pub(crate) fn step(
             let answer = s.refute(table, n, row);
             (Stage::Working(s), answer)
         }
-        (Stage::Looping(mut o), Record::Resolve(first, second, letter)) => {
+        (
+            Stage::Looping(mut o),
+            Record::Resolve {
+                first,
+                second,
+                letter,
+            },
+        ) => {
             let answer = o.infer(table, &Resolution, &[first, second], letter);
             (Stage::Looping(o), answer)
         }

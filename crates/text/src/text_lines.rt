@@ -3,13 +3,13 @@ ghost use Rattle.text.specs.Texts.{LengthChecked};
 
 use clause::refusal::{Fault, Refusal};
 use forms::cuts::cut;
+use records::text_line::TextLine;
 
-// A line of a text, without its end, and whether that is there.
+// A line of a text, and its number.
 #[derive(Clone, Copy)]
-pub struct TextLine<'t> {
+pub struct NumberedLine<'t> {
     pub number: u16,
-    pub bytes: &'t [u8],
-    pub ended: bool,
+    pub line: TextLine<'t>,
 }
 
 // The lines of a text that are still to come, and the number of the first of them.
@@ -37,37 +37,25 @@ impl<'t> Iterator for TextLines<'t> {
     ghost use Rattle.std.specs.Iterator.{at_most};
     ghost use Rattle.text.specs.Texts.{NextLine};
 
-    type Item = TextLine<'t>;
+    type Item = NumberedLine<'t>;
 
     ghost next_gives = { NextLine };
 
     ghost remaining = { λ s. at_most (length s.rest.now) };
 
-    fn next(&mut self) -> Option<TextLine<'t>> {
+    fn next(&mut self) -> Option<NumberedLine<'t>> {
         if self.rest.is_empty() {
             return None;
         }
         let number = self.number;
         self.number = number.saturating_add(1);
-        let (bytes, after) = cut(self.rest, b'\n');
-        match after {
-            Some(rest) => {
-                self.rest = rest;
-                Some(TextLine {
-                    number,
-                    bytes,
-                    ended: true,
-                })
-            }
-            None => {
-                self.rest = &[];
-                Some(TextLine {
-                    number,
-                    bytes,
-                    ended: false,
-                })
-            }
-        }
+        let (text, after) = cut(self.rest, b'\n');
+        self.rest = after.unwrap_or(&[]);
+        let line = TextLine {
+            text,
+            ended: after.is_some(),
+        };
+        Some(NumberedLine { number, line })
     }
 }
 

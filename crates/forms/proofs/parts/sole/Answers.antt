@@ -1,11 +1,12 @@
-use Rattle.std.proofs.Common.{◌≡◌, Some, rules}
+use Rattle.std.proofs.Common.{◌≡◌, not, is_some, length, ap, ◌∙◌, rules}
+use Rattle.std.specs.Bool.{then_some}
 use Rattle.forms.specs.Cuts.{split}
-use Rattle.forms.specs.Forms.{lead}
-use Rattle.forms.proofs.Leading.{sole_more}
+use Rattle.forms.proofs.Leading.{sole_left}
 use Rattle.forms.proofs.parts.sole.Goals as goal
 
-pub returns-in-Some : goal.returns-in-Some
-returns-in-Some g c =
-    let xs = c.in-Some.field-0.now in
-    let e : lead g.T.Part.form (split 32 c.args.field.now) ≡ Some (c.in_ok-part.part, split 32 xs) = search rules in
-    sole_more g.T.Part.form (split 32 c.args.field.now) c.in_ok-part.part xs e
+pub returns : goal.returns
+returns g c =
+    let text = c.args.field.now in let part = c.in_ok-part.part in let after = c.in_ok-part.after in
+    let last : c.is_none.result ≡ not (is_some after) = search rules in
+    c.then_some.ensures ∙ ap (λ b. then_some b part) last
+    ∙ sole_left (λ s. s.now) g.T.Part.form (split 32 text) (length text) part after (search rules)

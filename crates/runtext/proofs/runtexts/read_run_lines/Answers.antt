@@ -21,7 +21,7 @@ pub loop-line-preserved : goal.loop-line-preserved
 loop-line-preserved c =
     let l = c.loop-line in let line = c.in-Some.line in let w = c.in-Some.ensures in let later = c.next.new.self in
     let q = c.in_ok-stage.ensures in
-    let some : 0 < length line.bytes.now = q.some in
+    let some : 0 < length line.line.text.now = q.some in
     let counted = l.invariant.counted (omega (arith, w.steps.fewer)) in
     let few = l.invariant.few in
     let number : later.number ≡ line.number + 1 = w.steps.next_number (omega (arith, few)) ∙ ap (λ n. n + 1) (sym w.steps.number) in
@@ -29,8 +29,8 @@ loop-line-preserved c =
       counted = λ h. let parted = w.steps.parted h in omega (arith, parted, some, counted, number, w.steps.number);
       few = omega (arith, counted, number, w.steps.number, w.steps.fewer, c.requires);
       onward = λ r h. l.invariant.onward r
-          (reads_along line.number l.rest.number ((line.bytes.now, line.ended) ∷ lines later.rest.now) (lines l.rest.rest.now) l.stage r w.steps.number (sym w.steps.front)
-          (goes {l = (line.bytes.now, line.ended)} q.exact (reads_along later.number (line.number + 1) (lines later.rest.now) (lines later.rest.now) c.in_ok-stage.stage r number refl h)));
+          (reads_along line.number l.rest.number ((line.line.text.now, line.line.ended) ∷ lines later.rest.now) (lines l.rest.rest.now) l.stage r w.steps.number (sym w.steps.front)
+          (goes {l = (line.line.text.now, line.line.ended)} q.exact (reads_along later.number (line.number + 1) (lines later.rest.now) (lines later.rest.now) c.in_ok-stage.stage r number refl h)));
     }
 
 pub returns-in_err-stage : goal.returns-in_err-stage
@@ -39,8 +39,8 @@ returns-in_err-stage c =
     let f = c.in_err-stage.field-0.0 in
     let e : ◌≡◌ {A = Result TextRun Fault} c.from_residual.result (Err f) = search rules in
     subst (λ (z : Result TextRun Fault). RunReads 1 (lines c.args.text.now) Start z) (sym e)
-    (l.invariant.onward (Err f) (reads_along line.number l.rest.number ((line.bytes.now, line.ended) ∷ lines c.next.new.self.rest.now) (lines l.rest.rest.now) l.stage (Err f) w.steps.number (sym w.steps.front)
-    (stops {l = (line.bytes.now, line.ended)} q.exact)))
+    (l.invariant.onward (Err f) (reads_along line.number l.rest.number ((line.line.text.now, line.line.ended) ∷ lines c.next.new.self.rest.now) (lines l.rest.rest.now) l.stage (Err f) w.steps.number (sym w.steps.front)
+    (stops {l = (line.line.text.now, line.line.ended)} q.exact)))
 
 pub returns : goal.returns
 returns c =

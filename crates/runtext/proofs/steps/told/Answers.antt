@@ -13,7 +13,7 @@ loop-k-preserved c =
       q.2 ∙ i.0,
       q.3 ∙ i.1,
       more_told (letter_in c.loop-k.table.worlds.at) (letter_in c.change.new.self.worlds.at) (letter_in c.args.w.worlds.at) c.args.n c.loop-k.k (λ m. eqb (bit c.args.letters m) 1) i.2
-          (λ j m. q.4 j m ∙ ap (λ (b : Bool). cond (eqb j c.args.n && eqb m c.loop-k.k) b (letter_in c.loop-k.table.worlds.at j m)) c.bit_at-yes.ensures.exact),
+          (λ j m. q.4 j m ∙ ap (λ (b : Bool). cond (eqb j c.args.n && eqb m c.loop-k.k) b (letter_in c.loop-k.table.worlds.at j m)) (c.bit_at-yes.ensures.exact ∙ ap (λ x. eqb (bit x c.loop-k.k) 1) c.from.ensures)),
     )
 
 pub returns : goal.returns

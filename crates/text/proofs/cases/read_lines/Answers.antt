@@ -25,14 +25,14 @@ returns-in-Err c =
     let l = c.loop-line in let q = c.in-Err.ensures in let line = c.in-Some.line in let w = c.in-Some.ensures in let later = lines c.next.new.self.rest.now in
     let s = view l.reading.stage l.table in let row = c.take.new.row in
     l.invariant.onward (Err c.in-Err.refused.1) c.leave.new.table row
-    (comes_along line.number l.rest.number ((line.bytes.now, line.ended) ∷ later) (lines l.rest.rest.now) l.reading.found s s l.row (Err c.in-Err.refused.1) c.leave.new.table row w.steps.number (sym w.steps.front) refl
-    (stops_by line.number line.bytes.now line.ended later l.reading.found s (view c.in-Err.refused.0.stage c.take.new.table) l.row row c.in-Err.refused.1 c.leave.new.table q.exact c.leave.ensures))
+    (comes_along line.number l.rest.number ((line.line.text.now, line.line.ended) ∷ later) (lines l.rest.rest.now) l.reading.found s s l.row (Err c.in-Err.refused.1) c.leave.new.table row w.steps.number (sym w.steps.front) refl
+    (stops_by line.number line.line.text.now line.line.ended later l.reading.found s (view c.in-Err.refused.0.stage c.take.new.table) l.row row c.in-Err.refused.1 c.leave.new.table q.exact c.leave.ensures))
 
 pub loop-line-preserved : goal.loop-line-preserved
 loop-line-preserved c =
     let l = c.loop-line in let a = c.in-Ok-take in let q = a.ensures in let line = c.in-Some.line in let w = c.in-Some.ensures in let later = c.next.new.self in
     let s = view l.reading.stage l.table in let s' = view a.next.stage c.take.new.table in
-    let some : 0 < length line.bytes.now = q.some in
+    let some : 0 < length line.line.text.now = q.some in
     let counted = l.invariant.counted (omega (arith, w.steps.fewer)) in
     let few = l.invariant.few in
     let number : later.number ≡ line.number + 1 = w.steps.next_number (omega (arith, few)) ∙ ap (λ n. n + 1) (sym w.steps.number) in
@@ -41,8 +41,8 @@ loop-line-preserved c =
       few = omega (arith, counted, number, w.steps.number, w.steps.fewer, c.requires);
       led = q.onward l.invariant.led.0 l.invariant.led.1;
       onward = λ r t row h. l.invariant.onward r t row
-          (comes_along line.number l.rest.number ((line.bytes.now, line.ended) ∷ lines later.rest.now) (lines l.rest.rest.now) l.reading.found s s l.row r t row w.steps.number (sym w.steps.front) refl
-          (goes_by line.number line.bytes.now line.ended (lines later.rest.now) l.reading.found a.next.found s s' l.row c.take.new.row row r t q.exact
+          (comes_along line.number l.rest.number ((line.line.text.now, line.line.ended) ∷ lines later.rest.now) (lines l.rest.rest.now) l.reading.found s s l.row r t row w.steps.number (sym w.steps.front) refl
+          (goes_by line.number line.line.text.now line.line.ended (lines later.rest.now) l.reading.found a.next.found s s' l.row c.take.new.row row r t q.exact
           (comes_along later.number (line.number + 1) (lines later.rest.now) (lines later.rest.now) a.next.found s' s' c.take.new.row r t row number refl refl h)));
     }
 
