@@ -7,7 +7,7 @@ use crate::literals::is_dot;
 use crate::parts::{fold_parts, rises};
 
 // The first nine numbers of a list, zeros after the last: nine stand for nine or more.
-// Nine places and a count, since the library allocates nothing, and a `Vec` would.
+// Nine places and a count, since the library allocates nothing, and a `Vec` would; `Guards` is like it, but no struct may stand over an array of its parameter.
 #[derive(Clone, Copy)]
 pub struct Numbers {
     pub at: [u16; 9],

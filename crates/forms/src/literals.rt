@@ -7,7 +7,7 @@ use crate::numbers::lead_number;
 use crate::parts::{fold_parts, rises, sole};
 use clause::syntax::{LitSet, Literal};
 
-// A literal as it is written.
+// A literal as it is written: its letter may be one that a `Literal` has no room for, and sets rise by what is written.
 #[derive(Clone, Copy)]
 pub struct Written {
     pub letter: u16,

@@ -47,6 +47,7 @@ pub(crate) fn fold_parts<T: Part, S: Drop, F: Fn(S, T) -> Option<S> + Drop>(
     requires { F.IsAlwaysCallable step }
     ensures { (f : S → T → Option S) → ((s : S) (x : T) (r : Option S) → F.post step s x r → r ≡ f s x) → result ≡ through f T.form start (split 32 field.now) }
 {
+    // By hand: where a part ends is known once it is read, so what is left of the text comes out of each step.
     let mut so_far = start;
     let mut rest = field;
     loop {

@@ -23,6 +23,7 @@ fn open_loop(line: TextLine) -> Result<Record, Fault>
     line.closed(next, Record::OpenLoop(literal, found))
 }
 
+// By a rule of the project the key decides by a match, with one arm for each record.
 fn read_by(key: u8, line: TextLine) -> Result<Record, Fault>
     ensures { result ≡ by_key key (split 9 line.entry.text.now) line.entry.ended }
 {

@@ -11,6 +11,7 @@ pub fn guards(fields: Fields) -> Result<(Guards, u16), Fault>
     ensures { result ≡ guards_from no_guards 3 fields.entry }
 {
     let mut found = Guards::NONE;
+    // Counted beside the loop: the field after the last is answered too, and the count stops at 65,535.
     let mut k: u16 = 3;
     for text in fields {
         found = found.with(k, field(text, k)?);

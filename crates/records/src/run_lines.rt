@@ -8,6 +8,7 @@ use crate::text_line::TextLine;
 use clause::refusal::{Fault, Refusal};
 use forms::fields::key;
 
+// By a rule of the project the key decides by a match, with one arm for each record.
 fn read_by(key: u8, line: TextLine) -> Result<RunRecord, Fault>
     ensures { result ≡ run_by_key key (split 9 line.entry.text.now) line.entry.ended }
 {

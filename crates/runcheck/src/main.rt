@@ -28,6 +28,7 @@ fn judge(rt: &HostRuntime, paths: &[String]) -> Result<(), Ended> {
     conclude(rt, Report::from(show_text(&case, &table, &run_text)))
 }
 
+// Not shared by the programs: a function that calls its parameter asks something of its caller, and no public one does.
 fn main(rt: HostRuntime) -> io::Result<ExitCode> {
     let paths: Vec<String> = env::args(&rt)?.skip(1).collect(rt.alloc())?;
     if asks_for_help(&paths) {

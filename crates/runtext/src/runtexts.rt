@@ -43,6 +43,7 @@ fn read_run_lines(text: &[u8]) -> Result<TextRun, Fault>
     ensures { RunReads 1 (lines text.now) TheStart result }
 {
     let mut stage = RunStage::Start;
+    // `for` would use the lines up, and they tell the number after the last one.
     let mut rest = TextLines::of(text);
     while let Some(line) = rest.next() {
         stage = take_run_line(line, stage)?;

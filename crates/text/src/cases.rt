@@ -27,6 +27,7 @@ fn read_lines(
         stage: Stage::Taking(i),
         found: None,
     };
+    // `for` would use the lines up, and they tell the number after the last one.
     let mut rest = TextLines::of(text);
     while let Some(line) = rest.next() {
         match reading.take(line, table, row) {

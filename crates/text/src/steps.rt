@@ -8,7 +8,7 @@ use records::record::Record;
 use rules::resolution::Resolution;
 use rules::trial::{Claim, Trial};
 
-// One record, as the call that it makes at this stage; a key that does not fit the stage makes none.
+// One record, as the call that it makes at this stage; a key that does not fit the stage makes none. By a rule of the project each pair has its arm.
 pub(crate) fn step(
     stage: Stage,
     what: Record,
