@@ -75,7 +75,7 @@ fn print_core(
     match verdict {
         Ok(Contradiction { line, count }) => {
             print!(rt; "  contradiction: line {line} is empty, its core is")?;
-            for n in row.iter().take(count as usize) {
+            for n in row.iter().take(usize::from(count)) {
                 print!(rt; " {n}")?;
             }
             println!(rt; "")
