@@ -1,5 +1,6 @@
 pub mod Folding
 pub mod Changing
+pub mod Going
 pub mod Multiples
 pub mod Assigning
 pub mod Noting

@@ -77,7 +77,7 @@ impl Timetable {
         let out_of_range = Fault::of(Refusal::OutOfRange);
         let task = task_of(offset, period, length).ok_or(out_of_range)?;
         let mut tasks = self.tasks;
-        tasks[letter as usize] = Some(task);
+        tasks[usize::from(letter)] = Some(task);
         *self = Timetable::of(tasks).ok_or(out_of_range)?;
         Ok(())
     }

@@ -15,7 +15,7 @@ impl Moments {
         requires { i < self.now.end }
         ensures { result ≡ slice_index (worlds_of self.now) i }
     {
-        self.worlds.at[i as usize]
+        self.worlds.at[usize::from(i)]
     }
 
     // The first moment from `from` on and below `to` at which no literal of the set is true.

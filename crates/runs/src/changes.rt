@@ -30,14 +30,14 @@ impl Worlds {
         requires letter { k < 64 }
         ensures { Changed i k yes self.old.at self.new.at }
     {
-        self.at[i as usize].change(k, yes);
+        self.at[usize::from(i)].change(k, yes);
     }
 
     pub(crate) fn tells(&self, i: u16, k: u8) -> bool
         requires { i < 64 }
         ensures { result ≡ letter_in self.now.at i k }
     {
-        bit_at(self.at[i as usize].letters, k)
+        bit_at(self.at[usize::from(i)].letters, k)
     }
 }
 
@@ -59,7 +59,7 @@ impl WorldTable {
     pub fn change(&mut self, i: u16, k: u8, yes: bool) -> Result<(), Fault>
         ensures { LetterSet i k yes self.old self.new result }
     {
-        tested(k, i, self.lead + self.turn)?;
+        tested(k, i, self.end())?;
         self.worlds.change(i, k, yes);
         Ok(())
     }

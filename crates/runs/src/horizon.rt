@@ -17,10 +17,10 @@ impl Moments {
     pub(crate) fn horizon(&self, l: Literal) -> Option<u16>
         ensures { LastTrue (worlds_of self.now) self.now.lead l result }
     {
-        let told = &self.worlds.at[..self.end as usize];
+        let told = &self.worlds.at[..usize::from(self.end)];
         let Some(last) = told.iter().rposition(|world| true_in(*world, l)) else {
             return Some(0);
         };
-        (last < self.lead as usize).then_some(last as u16 + 1)
+        (last < usize::from(self.lead)).then_some(last as u16 + 1)
     }
 }

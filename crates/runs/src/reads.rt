@@ -18,9 +18,8 @@ pub fn asks(clause: Clause) -> u64
     match clause {
         Clause::Initial(n) => n.letters(),
         Clause::Global(n, x) => n.letters() | x.letters(),
-        Clause::Eventuality(n, l) => n.letters() | mask(l.letter),
+        Clause::Eventuality(n, l) | Clause::Never(n, l) => n.letters() | mask(l.letter),
         Clause::Assumption(x) => x.letters(),
-        Clause::Never(n, l) => n.letters() | mask(l.letter),
     }
 }
 
@@ -62,7 +61,7 @@ impl Masks {
         ensures { Noted (F.post test) end k self.old.at self.new.at }
     {
         let m = mask(k);
-        for (i, world) in self.at[..end as usize].iter_mut().enumerate() {
+        for (i, world) in self.at[..usize::from(end)].iter_mut().enumerate() {
             if test(i as u16, *world) {
                 *world |= m;
             }

@@ -1,4 +1,4 @@
-ghost use Rattle.std.specs.Prelude.{◌+◌, ◌≤◌};
+ghost use Rattle.std.specs.Prelude.{◌≡◌, ◌+◌, ◌≤◌};
 
 use crate::world::Worlds;
 
@@ -10,4 +10,13 @@ pub struct WorldTable {
     pub(crate) turn: u16,
     ghost turns: { 1 ≤ turn },
     ghost small: { lead + turn ≤ 64 },
+}
+
+impl WorldTable {
+    // One past the last moment of the loop.
+    pub(crate) fn end(&self) -> u16
+        ensures { result ≡ self.now.lead + self.now.turn }
+    {
+        self.lead + self.turn
+    }
 }

@@ -42,6 +42,6 @@ impl RunSource for Timetable {
 
     fn letter(&self, k: u8, i: u16) -> Result<bool, Fault> {
         tested(k, i, self.lead + self.turn)?;
-        Ok(due_at(self.tasks[k as usize], i))
+        Ok(due_at(self.tasks[usize::from(k)], i))
     }
 }

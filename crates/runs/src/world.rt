@@ -5,6 +5,7 @@ pub struct World {
 }
 
 // The worlds of a table.
+// They stand in a plain struct, so that one of them can be lent and changed in place.
 #[derive(Clone, Copy)]
 pub struct Worlds {
     pub(crate) at: [World; 64],

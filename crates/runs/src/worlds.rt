@@ -24,7 +24,7 @@ impl RunSource for WorldTable {
     }
 
     fn letter(&self, k: u8, i: u16) -> Result<bool, Fault> {
-        tested(k, i, self.lead + self.turn)?;
+        tested(k, i, self.end())?;
         Ok(self.worlds.tells(i, k))
     }
 }

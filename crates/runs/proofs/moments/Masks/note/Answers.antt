@@ -1,5 +1,6 @@
-use Rattle.std.proofs.Common.{ℕ, ◌+◌, Bool, true, false, List, get_or, take, refl, sym, ap, subst, arith}
+use Rattle.std.proofs.Common.{ℕ, ◌+◌, Bool, true, false, List, ◌++◌, get_or, take, drop, refl, sym, ap, subst, arith}
 use lib.Bits.{bit_or}
+use Rattle.runs.specs.Moments.{Noted}
 use Rattle.runs.proofs.Noting.{NotedTo, noted_next, noted_all}
 use Rattle.runs.proofs.moments.Masks.note.Goals as goal
 use Rattle.runs.proofs.moments.Masks.note.Goals.{then-test, else-test}
@@ -7,7 +8,7 @@ use Rattle.runs.proofs.moments.Masks.note.Goals.{then-test, else-test}
 pub loop-i-preserved : goal.loop-i-preserved
 loop-i-preserved g c =
     let Test : ℕ → ℕ → Bool → Type 0 = λ i w b. g.F.Fn.post c.args.test (i, (w, tt)) b in
-    let ws₀ = take c.args.end c.args.self.now.at in
+    let ws₀ = take c.from.result c.args.self.now.at in
     let ws = c.loop-i.world-items in
     let i = c.loop-i.i in
     let P : List ℕ → Type 0 = λ v. NotedTo Test c.args.k ws₀ v (i + 1) in
@@ -17,4 +18,9 @@ loop-i-preserved g c =
     ]
 
 pub returns : goal.returns
-returns g c = noted_all _ c.args.k c.args.end c.args.self.now.at c.loop-i.world-items c.loop-i.i (omega arith) (omega arith) (omega arith) c.loop-i.invariant
+returns g c =
+    let Test : ℕ → ℕ → Bool → Type 0 = λ i w b. g.F.Fn.post c.args.test (i, (w, tt)) b in
+    let ws = c.args.self.now.at in
+    let items = c.loop-i.world-items in
+    subst (λ e. Noted Test e c.args.k ws (items ++ drop c.from.result ws)) c.from.ensures
+    (noted_all Test c.args.k c.from.result ws items c.loop-i.i (omega arith) (omega arith) (omega arith) c.loop-i.invariant)

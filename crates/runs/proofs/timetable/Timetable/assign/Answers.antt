@@ -14,10 +14,11 @@ returns-in_err-self c =
     let ts = slice_set a.self.now.tasks a.letter (Some task) in
     let s : c.task_of.result ≡ Some task = search rules in
     let k = subst (λ (o : Option Task). TaskOf a.offset a.period a.length o) s c.task_of.ensures in
+    let made = subst (λ i. MadeOf (slice_set a.self.now.tasks i (Some task)) c.of-2.result) c.from.ensures c.of-2.ensures in
     let n : c.of-2.result ≡ None = search rules in
     let r : c.from_residual-in_err-self.result ≡ Err (plain OutOfRange) = search rules in
     subst (λ (z : Result (Unit {0}) Fault). Assigned a.letter a.offset a.period a.length a.self.now a.self.now z) (sym r)
-    (refl, inr (inr (omega arith, (task, k.1, subst (λ (o : Option Timetable). MadeOf ts o) n c.of-2.ensures), refl)))
+    (refl, inr (inr (omega arith, (task, k.1, subst (λ (o : Option Timetable). MadeOf ts o) n made), refl)))
 
 pub returns : goal.returns
 returns c =
@@ -26,5 +27,6 @@ returns c =
     let ts = slice_set a.self.now.tasks a.letter (Some task) in
     let s : c.task_of.result ≡ Some task = search rules in
     let k = subst (λ (o : Option Task). TaskOf a.offset a.period a.length o) s c.task_of.ensures in
+    let made = subst (λ i. MadeOf (slice_set a.self.now.tasks i (Some task)) c.of-2.result) c.from.ensures c.of-2.ensures in
     let n : c.of-2.result ≡ Some c.in_ok-self.field-0 = search rules in
-    (omega arith, k.0, (task, k.1, subst (λ (o : Option Timetable). MadeOf ts o) n c.of-2.ensures))
+    (omega arith, k.0, (task, k.1, subst (λ (o : Option Timetable). MadeOf ts o) n made))
