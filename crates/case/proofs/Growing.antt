@@ -1,7 +1,8 @@
 -- A table and its state grow by the lines that are written.
-use Rattle.std.proofs.Common.{◌≡◌, ℕ, zero, suc, ◌+◌, ◌<◌, ◌≤◌, Option, List, [], ◌∷◌, ◌++◌, length, take, drop, set, Ok, Err, Result, sym, refl, ap, ◌∙◌, subst, inl, arith}
+use Rattle.std.proofs.Common.{◌≡◌, ℕ, zero, suc, ◌+◌, ◌<◌, ◌≤◌, Option, List, [], ◌∷◌, ◌++◌, length, take, drop, set, Ok, Err, Result, sym, refl, ap, ◌∙◌, subst, inl, ⊎_elim, arith}
 use Rattle.std.specs.List.{AllByRecursion}
 use Rattle.std.proofs.lemmas.List.{append_assoc, length-append, length-map, length-take-le, drop-drop}
+use Rattle.std.proofs.lemmas.Bool.{cases_eq}
 use Rattle.clause.specs.declared.refusal.Fault.{Fault}
 use Rattle.clause.specs.declared.refusal.Refusal.TheVariants.{NoRoom, WrongSize}
 use Rattle.clause.specs.Refusals.{plain}
@@ -20,7 +21,7 @@ use Rattle.drafts.specs.Drafts.{Drafted, SealedDraft, StageDraft}
 use Rattle.case.specs.declared.stage.Body.{Body}
 use Rattle.case.specs.declared.stage.Sealed.{Sealed}
 use Rattle.case.specs.View.{front, view_at, view_sealed}
-use Rattle.case.specs.Calling.{answer_of, Pushed, AddedBy, AddsDraft, Led, Called}
+use Rattle.case.specs.Calling.{answer_of, Put, AddedBy, AddsDraft, Led, Called}
 
 -- the number of lines
 pub front_length : (n : ℕ) (t : List Line) → n ≤ length t → length (front n t) ≡ n
@@ -55,10 +56,6 @@ pub set_written : (n : ℕ) (t : List Line) (x : Line) → n < length t → Tidy
 set_written n t x h ty = let e : n + 0 ≡ n = omega arith in
     subst (λ m. Written n t (line_of x ∷ []) (set t m x)) e (written_push n t t [] x (line_of x) (omega arith) refl ty (written_none n t))
 
-pub pushed_on : (b : Body) (t : List Line) (x : Line) (r : Result ℕ Fault) (b' : Body) (t' : List Line) → Pushed b t x r b' t' → (b.last ≤ b'.last) × (b'.given ≡ b.given)
-pushed_on b t x (Ok n) b' t' p = (omega (arith, p.2), p.3)
-pushed_on b t x (Err f) b' t' p = (omega (arith, ap (λ (q : Body). q.last) p.2), ap (λ (q : Body). q.given) p.2)
-
 module _ (b : Body) (t : List Line) (long : length t ≡ 1000) (st : model.Stage) (c : Call) (ad : Adding c) where
   abbrev here : model.State
   here = view_at st b t
@@ -69,19 +66,25 @@ module _ (b : Body) (t : List Line) (long : length t ≡ 1000) (st : model.Stage
   causes_are : causes here c ≡ checks here c ++ full here 1
   causes_are = ap (λ Ps. checks here c ++ Ps) (one_place here c ad)
 
-  pub refused_draft : (f : Fault) → First (checks here c) f → AddedBy st c (refused f) b t b t
-  refused_draft f q = record {
-    answered = (first_left (checks here c) (places here c) f q, refl);
-    place = refl;
-    blank = λ z. z;
-  }
+  pub checked_refusal : (f : Fault) → First (checks here c) f → First (causes here c) f
+  checked_refusal f q = first_left (checks here c) (places here c) f q
 
-  pub pushed_draft : (x : Line) (r : Result ℕ Fault) (b' : Body) (t' : List Line) → NoneOf (checks here c) → Adds here c (line_of x) → Tidy x → Pushed b t x r b' t' → AddedBy st c (answer_of r) b t b' t'
-  pushed_draft x (Ok n) b' t' none ads ty p =
+  pub no_place : (f : Fault) → NoneOf (checks here c) → 1000 ≤ b.last → f ≡ plain NoRoom → First (causes here c) f
+  no_place f none h e = subst (λ (Ps : List Cause). First Ps f) (sym causes_are) (first_after (checks here c) (full here 1) f none (inl (omega (arith, last_is), e)))
+
+  -- a refusal handed on
+  pub not_added : (r : Result ℕ Fault) (f : Fault) (t' : List Line) → (g : Fault) × (r ≡ Err g) × (g ≡ f) → t' ≡ t → First (causes here c) f → AddedBy st c (answer_of r) b t b t'
+  not_added r f t' p e q =
+      let a : AddedBy st c (refused f) b t b t = record { answered = (q, refl); place = refl; blank = λ z. z } in
+      subst (λ (u : Result ℕ Fault). AddedBy st c (answer_of u) b t b t') (sym p.1) (subst (λ (g : Fault). AddedBy st c (refused g) b t b t') (sym p.2) (subst (AddedBy st c (refused f) b t b) (sym e) a))
+
+  pub line_added : (x : Line) (n : ℕ) (b' : Body) (t' : List Line) → NoneOf (checks here c) → Adds here c (line_of x) → Tidy x → Put 1000 b.last t x (Ok n) t' → b'.last ≡ n → b'.given ≡ b.given → AddedBy st c (number n) b t b' t'
+  line_added x n b' t' none ads ty p en eg =
       let h = p.0 in
-      let w : Written b.last t (line_of x ∷ []) t' = subst (Written b.last t (line_of x ∷ [])) (sym p.4) (set_written b.last t x (omega arith) ty) in
-      let ls : front b'.last t' ≡ front b.last t ++ (line_of x ∷ []) = ap (λ k. front k t') p.2 ∙ written_lines b.last t (line_of x ∷ []) t' (omega arith) w in
-      let vw : view_at st b' t' ≡ added here (line_of x ∷ []) = λ i. record { stage = st; given = p.3 i; lines = ls i } in
+      let last : b'.last ≡ b.last + 1 = en ∙ p.1 in
+      let w : Written b.last t (line_of x ∷ []) t' = subst (Written b.last t (line_of x ∷ [])) (sym p.2) (set_written b.last t x (omega arith) ty) in
+      let ls : front b'.last t' ≡ front b.last t ++ (line_of x ∷ []) = ap (λ k. front k t') last ∙ written_lines b.last t (line_of x ∷ []) t' (omega arith) w in
+      let vw : view_at st b' t' ≡ added here (line_of x ∷ []) = λ i. record { stage = st; given = eg i; lines = ls i } in
       record {
         answered = (
           subst NoneOf (sym causes_are) (none_both (checks here c) (full here 1) none (not_if _ NoRoom (λ q. omega (arith, last_is)), tt)),
@@ -89,16 +92,8 @@ module _ (b : Body) (t : List Line) (long : length t ≡ 1000) (st : model.Stage
         );
         place = subst (λ k. Written k t (drop k (front b'.last t')) t') (sym last_is)
             (subst (λ (ms : List model.Line). Written b.last t ms t') (sym (new_lines b.last (front b.last t) (line_of x ∷ []) _ last_is ls)) w);
-        blank = λ z. subst (λ k. BlankFrom k t') (sym p.2) (blank_after b.last t (line_of x ∷ []) t' (omega arith) w z);
+        blank = λ z. subst (λ k. BlankFrom k t') (sym last) (blank_after b.last t (line_of x ∷ []) t' (omega arith) w z);
       }
-  pushed_draft x (Err f) b' t' none ads ty p = record {
-    answered = (
-      subst (λ (Ps : List Cause). First Ps f) (sym causes_are) (first_after (checks here c) (full here 1) f none (inl (let h = p.0 in omega (arith, last_is), p.1))),
-      ap (λ (q : Body). view_at st q t') p.2 ∙ ap (view_at st b) p.3,
-    );
-    place = p.3;
-    blank = λ z. subst (λ (q : Body). BlankFrom q.last t') (sym p.2) (subst (BlankFrom b.last) (sym p.3) z);
-  }
 
 -- whatever led here leads on
 pub leads : (c : Call) (a : Answer) (s : model.State) (t : List Line) (s' : model.State) (t' : List Line) → Exists s.stage c → Answered s c a s' → (BlankFrom (model.last s) t → BlankFrom (model.last s') t')
@@ -134,13 +129,23 @@ sealed_adds c d r s t s' t' long same x ad dr q =
           (λ b. subst (λ n. BlankFrom n t') (sym e') (w.blank (subst (λ n. BlankFrom n t) e b)));
     }
 
--- a sealed draft, at the lines of the case
-pub sealed_draft : (c : Call) (d : Result Line Fault) (b : Body) (t ls : List Line) → ls ≡ take b.last t → SealedDraft ls c d → Drafted (view_at model.sealed b t) c d
-sealed_draft c d b t ls e q =
-    subst (λ (xs : List Line). SealedDraft xs c d) e q b.given
+-- what is drafted at the lines of a case
+pub sealed_draft : (c : Call) (d r : Result Line Fault) (b : Body) (t ls : List Line) → d ≡ r → ls ≡ take b.last t → SealedDraft ls c r → Drafted (view_at model.sealed b t) c d
+sealed_draft c d r b t ls h e q =
+    subst (λ (x : Result Line Fault). Drafted (view_at model.sealed b t) c x) (sym h) (subst (λ (xs : List Line). SealedDraft xs c r) e q b.given)
 
--- a draft at a stage whose loop begins at first, at the lines of the case
-pub stage_draft : (c : Call) (d : Result Line Fault) (b : Body) (t ls : List Line) (first : Option ℕ) (st : model.Stage) → ls ≡ take b.last t → LoopFrom first st
-    → StageDraft first ls c d → Drafted (view_at st b t) c d
-stage_draft c d b t ls first st e from q =
-    subst (λ (xs : List Line). StageDraft first xs c d) e q st b.given from
+pub stage_draft : (first : Option ℕ) (st : model.Stage) (c : Call) (d r : Result Line Fault) (b : Body) (t ls : List Line) → LoopFrom first st → d ≡ r → ls ≡ take b.last t → StageDraft first ls c r → Drafted (view_at st b t) c d
+stage_draft first st c d r b t ls from h e q =
+    subst (λ (x : Result Line Fault). Drafted (view_at st b t) c x) (sym h) (subst (λ (xs : List Line). StageDraft first xs c r) e q st b.given from)
+
+-- a call on a sealed case that drafts one line
+pub sealed_call : (c : Call) (r : Result ℕ Fault) (s : Sealed) (t : List Line) (s' : Sealed) (t' : List Line) → length t' ≡ length t → Exists model.sealed c → Adding c
+    → ((length t ≡ 1000 → ⊥) → (r ≡ Err (plain WrongSize)) × (s'.body ≡ s.body) × (t' ≡ t))
+    → (length t ≡ 1000 → (d : Result Line Fault) × Drafted (view_sealed s t) c d × AddsDraft d r s.body t s'.body t') → Called view_sealed c (answer_of r) s t s' t'
+sealed_call c r s t s' t' same x ad w q = ⊎_elim
+    (λ e. let p = q e in sealed_adds c p.0 r s t s' t' e same x ad p.1 p.2)
+    (λ n. let p = w n in
+        subst (λ (u : Result ℕ Fault). Called view_sealed c (answer_of u) s t s' t') (sym p.0)
+        (subst (λ (u : Body). Called view_sealed c (refused (plain WrongSize)) s t (record { body = u }) t') (sym p.1)
+        (subst (λ (u : List Line). Called view_sealed c (refused (plain WrongSize)) s t s u) (sym p.2) (wrong_size view_sealed c (plain WrongSize) s t n refl))))
+    (cases_eq (length t) 1000)

@@ -51,6 +51,3 @@ module _ (n : ℕ) (s : Sealed) (t : List Line) (row row' : List ℕ) (long : le
 
 pub refute_size : (n : ℕ) (s : Sealed) (t : List Line) (row : List ℕ) (f : Fault) → length t ≡ 1000 → (length row ≡ 200 → ⊥) → f ≡ plain WrongSize → Refuted n (Err f) s t row row
 refute_size n s t row f long z e = refuted_call n s t row row long (Err f) refl (inl (z, e), refl)
-
-pub refute_wrong : (n : ℕ) (s : Sealed) (t : List Line) (row : List ℕ) (f : Fault) → (length t ≡ 1000 → ⊥) → f ≡ plain WrongSize → Refuted n (Err f) s t row row
-refute_wrong n s t row f z e = record { wrong = λ _. ap Err e; right = λ q. absurd (z q); kept = refl; onward = λ q. absurd (z q); verdict = λ q. absurd (z q) }

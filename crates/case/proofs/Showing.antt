@@ -1,7 +1,8 @@
 -- The given lines put to a run.
-use Rattle.std.proofs.Common.{◌≡◌, ℕ, ◌+◌, ◌-◌, ◌<◌, ◌≤◌, List, length, get_or, take, Some, None, Ok, Err, Result, sym, refl, ap, ◌∙◌, subst, inl, ⊎_elim, arith}
+use Rattle.std.proofs.Common.{◌≡◌, ℕ, ◌+◌, ◌-◌, ◌<◌, ◌≤◌, List, [], ◌∷◌, ◌++◌, length, get_or, take, Some, None, Ok, Err, Result, sym, refl, ap, ◌∙◌, subst, inl, ⊎_elim, arith}
 use lib.Bits.{bit_or}
-use Rattle.std.proofs.lemmas.List.{get_or-take, take-map, length-map, length-take-le, take_all}
+use Rattle.std.proofs.lemmas.List.{get_or-take, get_or_append_left, take-map, map_push, length-append, length-map, length-take-le}
+use Rattle.std.proofs.Math.Seq.{get_or-append_seam}
 use Rattle.std.proofs.lemmas.Bool.{cases_eq}
 use Rattle.clause.specs.declared.refusal.Fault.{Fault}
 use Rattle.clause.specs.declared.refusal.Refusal.TheVariants.{RunBreaks}
@@ -36,18 +37,21 @@ clause_here t i x h e = ap (λ (l : model.Line). l.clause) (line_here t (i + 1) 
 front_count : (m : ℕ) (t : List Line) → m ≤ length t → length (lines_of (take m t)) ≡ m
 front_count m t h = length-map (take m t) line_of ∙ length-take-le m t h
 
-pub asked_more : (t : List Line) (i asked a : ℕ) (x : Line) → i < length t → x ≡ get_or t i x → ((literal_of x.clause).letter < 64 → a ≡ asks x.clause) → AllAsked (lines_of (take i t)) asked → AllAsked (lines_of (take (i + 1) t)) (bit_or asked a)
-asked_more t i asked a x h is ea q n low high k b =
-    let w = x.narrow.2 in
-    let e : a ≡ asks x.clause = ea (omega arith) in
-    let m : n ≤ i + 1 = omega (arith, front_count (i + 1) t (omega arith)) in
-    ⊎_elim
-    (λ z. in_right asked a k (subst (In k) (sym (e ∙ ap asks (clause_here t i x h is))) (subst (λ j. In k (asks (model.clause_at (lines_of t) j))) z (subst (λ (c : Clause). In k (asks c)) (cut_clause (i + 1) n t low m) b))))
-    (λ z. in_left asked a k (q n low (omega (arith, front_count i t (omega arith))) k (subst (λ (c : Clause). In k (asks c)) (cut_clause (i + 1) n t low m ∙ sym (cut_clause i n t low (omega arith))) b)))
-    (cases_eq n (i + 1))
+pub none_asked : (asked : ℕ) → AllAsked [] asked
+none_asked asked n low high k b = omega arith
 
-pub asked_all : (t : List Line) (i asked : ℕ) → length t ≤ i → AllAsked (lines_of (take i t)) asked → AllAsked (lines_of t) asked
-asked_all t i asked h q = subst (λ (xs : List Line). AllAsked (lines_of xs) asked) (take_all i t h) q
+-- what one line more asks for
+pub asked_more : (ys : List Line) (asked r : ℕ) (x : Line) → AllAsked (lines_of ys) asked → (a : ℕ) → ((literal_of x.clause).letter < 64 → a ≡ asks x.clause) → r ≡ bit_or asked a → AllAsked (lines_of (ys ++ (x ∷ []))) r
+asked_more ys asked r x q a w er n low high k b =
+    let ea : a ≡ asks x.clause = w (let v = x.narrow.2 in omega arith) in
+    let ls : lines_of (ys ++ (x ∷ [])) ≡ lines_of ys ++ (line_of x ∷ []) = map_push line_of ys x in
+    let count = length-map ys line_of in
+    let top : n ≤ length ys + 1 = omega (arith, length-map (ys ++ (x ∷ [])) line_of, length-append ys (x ∷ [])) in
+    let bx = subst (λ (l : model.Line). In k (asks l.clause)) (ap (λ (zs : List model.Line). get_or zs (n - 1) model.blank) ls) b in
+    subst (In k) (sym er) (⊎_elim
+    (λ e. in_right asked a k (subst (In k) (sym ea) (subst (λ (l : model.Line). In k (asks l.clause)) (ap (λ m. get_or (lines_of ys ++ (line_of x ∷ [])) m model.blank) (let z : n - 1 ≡ length (lines_of ys) = omega (arith, count) in z) ∙ get_or-append_seam (lines_of ys) (line_of x) [] model.blank) bx)))
+    (λ e. in_left asked a k (q n low (omega (arith, count)) k (subst (λ (l : model.Line). In k (asks l.clause)) (get_or_append_left (lines_of ys) (line_of x ∷ []) model.blank (n - 1) (omega (arith, count))) bx)))
+    (cases_eq n (length ys + 1)))
 
 pub letters_asked : (t : List Line) (i : ℕ) (x : Line) (asked : ℕ) → i < length t → x ≡ get_or t i x → AllAsked (lines_of t) asked → (k : ℕ) → In k (asks x.clause) → In k asked
 letters_asked t i x asked h is q k b = q (i + 1) (omega arith) (omega (arith, length-map t line_of)) k (subst (λ (c : Clause). In k (asks c)) (clause_here t i x h is) b)

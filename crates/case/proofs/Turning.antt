@@ -1,6 +1,8 @@
 -- Calls that change the stage.
 use Rattle.std.proofs.Common.{◌≡◌, ℕ, ◌+◌, ◌-◌, ◌<◌, ◌≤◌, List, ◌++◌, map, length, take, drop, Ok, Err, Result, sym, refl, ap, ◌∙◌, subst, inl, inr, ⊎_elim, arith}
 use Rattle.std.proofs.lemmas.List.{length-map, length-take-le, take-take, take-map, take_all, take-append-le}
+use Rattle.std.proofs.lemmas.Bool.{cases_eq}
+use Rattle.std.proofs.Math.Bridge.{le_prop}
 use Rattle.clause.specs.declared.refusal.Fault.{Fault}
 use Rattle.clause.specs.declared.refusal.Refusal.TheVariants.{WrongSize, LetterRange, WrongCount, NoRoom}
 use Rattle.clause.specs.Refusals.{plain}
@@ -21,14 +23,11 @@ use Rattle.case.specs.declared.stage.OpenLoop.{OpenLoop}
 use Rattle.case.specs.declared.stage.Sealed.{Sealed}
 use Rattle.case.specs.View.{front, view_at, view_sealed, view_loop, guards_in, stage_of}
 use Rattle.case.specs.Calling.{Placed, Called, AddsDraft, answer_of}
-use Rattle.case.specs.Looping.{LoopOf, Moved, Turned, Opened, Closed}
-use Rattle.case.proofs.Growing.{front_length, new_lines, blank_after, leads}
+use Rattle.case.specs.Looping.{LoopOf, Turned, Opened, Closed}
+use Rattle.case.proofs.Growing.{front_length, new_lines, blank_after, leads, wrong_size}
 use Rattle.case.proofs.Giving.{blanked_from}
 
 module _ {X Y : Type 0} (view : X → List Line → model.State) (view' : Y → List Line → model.State) (c : Call) (s : X) (t : List Line) where
-  pub turned_wrong : (f : Fault) → (length t ≡ 1000 → ⊥) → f ≡ plain WrongSize → Turned view view' c (Err (s, f)) s t t
-  turned_wrong f n e = record { wrong = λ _. (ap (λ (g : Fault). Err (s, g)) e, refl); right = λ z. absurd (n z); back = refl; onward = λ z. absurd (n z) }
-
   pub turned_refused : (f : Fault) → length t ≡ 1000 → Exists (view s t).stage c → First (causes (view s t) c) f → Turned view view' c (Err (s, f)) s t t
   turned_refused f long x q = record {
     wrong = λ z. absurd (z long);
@@ -61,13 +60,6 @@ module _ (b : Body) (t t' : List Line) (ms : List model.Line) (long : length t �
       subst (λ k. BlankFrom k t') (sym (front_length n t' top ∙ en)) (blank_after b.last t ms t' (omega (arith, b.fits)) w (subst (λ k. BlankFrom k t) e z))
 
 -- open
-pub no_room_open : (b : Body) (l : Literal) (gs : List LitSet) (f : Fault) → ¬ (19 < l.letter) → ¬ SomeOver gs → ¬ (length gs ≡ 0) → ¬ (8 < length gs) → 1000 < b.last + length gs → f ≡ plain NoRoom
-    → (t : List Line) → length t ≡ 1000 → First (causes (view_at model.sealed b t) (open_loop l gs)) f
-no_room_open b l gs f a o z k h e t long = inr (
-  not_if _ LetterRange (⊎_elim a o),
-  inr (not_if _ WrongCount (⊎_elim z k), inl (omega (arith, front_length b.last t (omega (arith, b.fits))), e)),
-)
-
 pub opened_ok : (s : Sealed) (t t' : List Line) (l : Literal) (gs : List LitSet) (o : OpenLoop) (n : ℕ) → length t ≡ 1000 → length t' ≡ length t → l.letter ≤ 19 → ¬ SomeOver gs → 1 ≤ length gs → length gs ≤ 8
     → s.body.last + length gs ≤ 1000 → LoopOf s l gs o → n ≡ s.body.last + 1 → Written s.body.last t (map (assumed l) gs) t' → Opened (open_loop l gs) (Ok (o, n)) s t t'
 opened_ok s t t' l gs o n long same a w low high room is en wr =
@@ -85,28 +77,40 @@ opened_ok s t t' l gs o n long same a w low high room is en wr =
       grown_place s.body t t' (map (assumed l) gs) long wr o.body.last el top,
     )
 
--- infer in a loop
-moved_view : (o : OpenLoop) (b : Body) (o' : OpenLoop) (t : List Line) → Moved o b o' → view_at (stage_of o) b t ≡ view_loop o' t
-moved_view o b o' t m i = record {
-  stage = model.loop (sym m.first i) (sym m.literal i) (sym m.guards i);
-  given = (sym m.body_is i).given;
-  lines = front (sym m.body_is i).last t;
-}
+-- a loop is told by its numbers
+pub same_loop : (o : OpenLoop) (b : Body) → b ≡ o.body → (own : b.given + 1 ≤ o.first) (placed : o.first ≤ b.last + 1) (guarded : o.count ≤ 8) (plain : o.literal.letter ≤ 19) (narrow : ¬ SomeOver (guards_in o))
+    → ◌≡◌ {A = OpenLoop} (record { body = b; first = o.first; literal = o.literal; guards = o.guards; count = o.count; own = own; placed = placed; guarded = guarded; plain = plain; narrow = narrow }) o
+same_loop o b e = subst
+    (λ (q : Body). (own : q.given + 1 ≤ o.first) (placed : o.first ≤ q.last + 1) (guarded : o.count ≤ 8) (plain : o.literal.letter ≤ 19) (narrow : ¬ SomeOver (guards_in o))
+        → ◌≡◌ {A = OpenLoop} (record { body = q; first = o.first; literal = o.literal; guards = o.guards; count = o.count; own = own; placed = placed; guarded = guarded; plain = plain; narrow = narrow }) o)
+    (sym e)
+    (λ own placed guarded plain narrow.
+        let n : narrow ≡ o.narrow = λ i x. (let p : narrow x ≡ o.narrow x = absurd (narrow x) in p i) in
+        λ i. record { body = o.body; first = o.first; literal = o.literal; guards = o.guards; count = o.count; own = le_prop own o.own i; placed = le_prop placed o.placed i; guarded = le_prop guarded o.guarded i; plain = le_prop plain o.plain i; narrow = n i })
 
-pub loop_adds : (c : Call) (d : Result Line Fault) (r : Result ℕ Fault) (o : OpenLoop) (t : List Line) (b : Body) (o' : OpenLoop) (t' : List Line) → length t ≡ 1000 → length t' ≡ length t → Exists (stage_of o) c → Adding c
-    → Drafted (view_loop o t) c d → AddsDraft d r o.body t b t' → Moved o b o' → Called view_loop c (answer_of r) o t o' t'
-loop_adds c d r o t b o' t' long same x ad dr q m =
-    let w = q (stage_of o) c ad dr in
-    let v = moved_view o b o' t' m in
-    let e = front_length o.body.last t (omega (arith, o.body.fits)) in
-    let e' = front_length o'.body.last t' (omega (arith, o'.body.fits)) in
-    let a : Answered (view_loop o t) c (answer_of r) (view_loop o' t') = subst (λ (u : model.State). Answered (view_loop o t) c (answer_of r) u) v w.answered in
-    record {
-      exact = record { wrong = λ z. absurd (z long); right = λ _. a };
-      place = subst (λ (u : model.State). Placed (answer_of r) (view_loop o t) t u t') v w.place;
-      onward = λ _. leads c (answer_of r) (view_loop o t) t (view_loop o' t') t' x a
-          (λ z. subst (λ n. BlankFrom n t') (sym (e' ∙ ap (λ (q : Body). q.last) m.body_is)) (w.blank (subst (λ n. BlankFrom n t) e z)));
-    }
+-- infer in a loop
+pub loop_call : (c : Call) (r : Result ℕ Fault) (o : OpenLoop) (t : List Line) (o' : OpenLoop) (t' : List Line) → length t' ≡ length t → Exists (stage_of o) c → Adding c
+    → stage_of o' ≡ stage_of o → ((length t ≡ 1000 → ⊥) → (r ≡ Err (plain WrongSize)) × (o' ≡ o) × (t' ≡ t))
+    → (length t ≡ 1000 → (d : Result Line Fault) × Drafted (view_loop o t) c d × AddsDraft d r o.body t o'.body t') → Called view_loop c (answer_of r) o t o' t'
+loop_call c r o t o' t' same x ad es w q = ⊎_elim
+    (λ long.
+        let p = q long in
+        let k = p.2 (stage_of o) c ad p.1 in
+        let v : view_at (stage_of o) o'.body t' ≡ view_loop o' t' = ap (λ st. view_at st o'.body t') (sym es) in
+        let e = front_length o.body.last t (omega (arith, o.body.fits)) in
+        let e' = front_length o'.body.last t' (omega (arith, o'.body.fits)) in
+        let a : Answered (view_loop o t) c (answer_of r) (view_loop o' t') = subst (λ (u : model.State). Answered (view_loop o t) c (answer_of r) u) v k.answered in
+        record {
+          exact = record { wrong = λ z. absurd (z long); right = λ _. a };
+          place = subst (λ (u : model.State). Placed (answer_of r) (view_loop o t) t u t') v k.place;
+          onward = λ _. leads c (answer_of r) (view_loop o t) t (view_loop o' t') t' x a
+              (λ z. subst (λ n. BlankFrom n t') (sym e') (k.blank (subst (λ n. BlankFrom n t) e z)));
+        })
+    (λ n. let p = w n in
+        subst (λ (u : Result ℕ Fault). Called view_loop c (answer_of u) o t o' t') (sym p.0)
+        (subst (λ (u : OpenLoop). Called view_loop c (refused (plain WrongSize)) o t u t') (sym p.1)
+        (subst (λ (u : List Line). Called view_loop c (refused (plain WrongSize)) o t o u) (sym p.2) (wrong_size view_loop c (plain WrongSize) o t n refl))))
+    (cases_eq (length t) 1000)
 
 -- close
 pub closed_ok : (o : OpenLoop) (t t' : List Line) (ls : List Line) (ns : List ℕ) (gs : List LitSet) (s : Sealed) (n : ℕ) → length t ≡ 1000 → length t' ≡ length t → ls ≡ take o.body.last t → gs ≡ guards_in o

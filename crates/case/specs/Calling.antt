@@ -46,10 +46,10 @@ pub record Called {X : Type 0} (view : X → List Line → model.State) (c : Cal
   pub place : Placed a (view s t) t (view s' t') t'
   pub onward : Onward c a (view s t) t (view s' t') t'
 
--- a line was put after the last one, or there was no room
-abbrev pub Pushed : Body → List Line → Line → Result ℕ Fault → Body → List Line → Type 0
-Pushed s t x (Ok n) s' t' = (s.last < 1000) × (n ≡ s.last + 1) × (s'.last ≡ s.last + 1) × (s'.given ≡ s.given) × (t' ≡ slice_set t s.last x)
-Pushed s t x (Err f) s' t' = (1000 ≤ s.last) × (f ≡ plain NoRoom) × (s' ≡ s) × (t' ≡ t)
+-- a line was put after the first n places, which are fewer than the limit, or there was no room
+abbrev pub Put : ℕ → ℕ → List Line → Line → Result ℕ Fault → List Line → Type 0
+Put limit n t x (Ok m) t' = (n < limit) × (m ≡ n + 1) × (t' ≡ slice_set t n x)
+Put limit n t x (Err f) t' = (limit ≤ n) × (f ≡ plain NoRoom) × (t' ≡ t)
 
 -- a call that adds the line drafted
 pub record AddedBy (st : model.Stage) (c : Call) (a : Answer) (b : Body) (t : List Line) (b' : Body) (t' : List Line) : Type 0 where
@@ -64,11 +64,6 @@ AddsDraft d r b t b' t' = (st : model.Stage) (c : Call) → Adding c → Drafted
 abbrev pub Begun : Result Intake Fault → List Line → List Line → Type 0
 Begun (Ok s) t t' = (length t ≡ 1000) × (view_intake s t' ≡ model.fresh) × Blanked 0 1000 t t' × Led [] (view_intake s t') t'
 Begun (Err f) t t' = (length t ≢ 1000) × (f ≡ plain WrongSize) × (t' ≡ t)
-
--- a given line was put after the last one, or there was no room
-abbrev pub GivenToo : Intake → List Line → Line → Result ℕ Fault → Intake → List Line → Type 0
-GivenToo s t x (Ok n) s' t' = (s.given < 200) × (n ≡ s.given + 1) × (s'.given ≡ s.given + 1) × (t' ≡ slice_set t s.given x)
-GivenToo s t x (Err f) s' t' = (200 ≤ s.given) × (f ≡ plain NoRoom) × (s' ≡ s) × (t' ≡ t)
 
 -- the sealed case of an intake, with every table of 1,000 places
 pub record SealedAs (s : Intake) (t : List Line) (s' : Sealed) (n : ℕ) : Type 0 where

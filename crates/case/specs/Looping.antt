@@ -65,13 +65,6 @@ TakenBack (Err p) o t t' = t' ≡ t
 abbrev pub Abandoned : Result (Sealed × ℕ) (OpenLoop × Fault) → OpenLoop → List Line → List Line → Type 0
 Abandoned r o t t' = Turned view_loop view_sealed abandon r o t t' × TakenBack r o t t'
 
--- the loop with another body
-pub record Moved (o : OpenLoop) (b : Body) (o' : OpenLoop) : Type 0 where
-  pub body_is : o'.body ≡ b
-  pub first : o'.first ≡ o.first
-  pub literal : o'.literal ≡ o.literal
-  pub guards : guards_in o' ≡ guards_in o
-
 -- a close of a loop whose lines are these
 abbrev pub CloseChecked : OpenLoop → List Line → List ℕ → Result Unit Fault → Type 0
 CloseChecked o ls ns (Ok _) = length ls ≡ o.body.last → NoneOf (causes (at_stage (stage_of o) o.body.given (lines_of ls)) (close ns)) × (length ns ≡ length (guards_in o)) × (o.body.last + length ns ≤ 1000)

@@ -1,12 +1,13 @@
-ghost use Rattle.std.specs.Prelude.{◌≡◌, ℕ, ◌<◌, ◌≤◌, List, [], length};
+ghost use Rattle.std.specs.Prelude.{◌≡◌, List};
 ghost use Rattle.clause.specs.Tests.{Tells};
 ghost use Rattle.protocol.specs.Calls.{give as the_give, seal as the_seal};
 ghost use Rattle.protocol.specs.Causes.{OverGiven};
 ghost use Rattle.protocol.specs.Promise.{Promise};
 ghost use Rattle.lines.specs.declared.line.Line.{Line as TheLine};
 ghost use Rattle.case.specs.View.{view_intake};
-ghost use Rattle.case.specs.Calling.{Called, Begun, GivenToo, SealedAs, answer_of};
+ghost use Rattle.case.specs.Calling.{Called, Begun, SealedAs, answer_of};
 
+use crate::body::put;
 use crate::stage::{Body, Intake, Sealed};
 use clause::refusal::{Fault, Refusal};
 use clause::syntax::Clause;
@@ -20,8 +21,7 @@ fn over_given(clause: Clause) -> bool
         Clause::Initial(n) => n.over(19),
         Clause::Global(n, x) => n.over(19) || x.over(19),
         Clause::Eventuality(n, l) => n.over(19) || l.letter > 19,
-        Clause::Assumption(_) => true,
-        Clause::Never(_, _) => true,
+        Clause::Assumption(_) | Clause::Never(..) => true,
     }
 }
 
@@ -38,29 +38,18 @@ impl Intake {
         Ok(Intake { given: 0 })
     }
 
-    fn put(&mut self, table: &mut [Line], line: Line) -> Result<u16, Fault>
-        requires { length table.old ≡ 1000 }
-        ensures { GivenToo self.old table.old line result self.new table.new }
-    {
-        if self.given >= 200 {
-            return Err(Fault::of(Refusal::NoRoom));
-        }
-        table[self.given as usize] = line;
-        self.given += 1;
-        Ok(self.given)
-    }
-
     // Adds an initial, global or eventuality clause over plain letters, and answers its number.
     pub fn give(&mut self, table: &mut [Line], clause: Clause) -> Result<u16, Fault>
         ensures { Called view_intake (the_give clause) (answer_of result) self.old table.old self.new table.new }
     {
-        if table.len() != 1000 {
+        let Some(table) = table.as_mut_array::<1000>() else {
             return Err(Fault::of(Refusal::WrongSize));
-        }
+        };
         if over_given(clause) {
             return Err(Fault::of(Refusal::LetterRange));
         }
-        self.put(table, Line::citing(clause, &[], false))
+        self.given = put(table, Line::citing(clause, &[], false), self.given, 200)?;
+        Ok(self.given)
     }
 
     // The number of the last line.

@@ -3,7 +3,7 @@ ghost use Rattle.protocol.specs.Calls.{infer as the_infer, open_loop, close as t
 ghost use Rattle.protocol.specs.Causes.{SomeOver};
 ghost use Rattle.case.specs.View.{view_loop, guards_in};
 ghost use Rattle.case.specs.Calling.{Called, answer_of};
-ghost use Rattle.case.specs.Looping.{LoopOf, Opened, OpenChecked, Moved, CloseChecked, Closed, Abandoned};
+ghost use Rattle.case.specs.Looping.{LoopOf, Opened, OpenChecked, CloseChecked, Closed, Abandoned};
 
 use crate::stage::{Body, OpenLoop, Sealed};
 use clause::refusal::{Fault, Refusal};
@@ -24,10 +24,10 @@ impl Body {
         if l.letter > 19 || some_over(guards) {
             return Err(Fault::of(Refusal::LetterRange));
         }
-        if guards.len() == 0 || guards.len() > 8 {
+        if !(1..=8).contains(&guards.len()) {
             return Err(Fault::of(Refusal::WrongCount));
         }
-        if self.last as usize + guards.len() > 1000 {
+        if usize::from(self.last) + guards.len() > 1000 {
             return Err(Fault::of(Refusal::NoRoom));
         }
         Ok(())
@@ -75,9 +75,9 @@ impl Sealed {
     ) -> Result<(OpenLoop, u16), (Sealed, Fault)>
         ensures { Opened (open_loop l guards.now) result self table.old table.new }
     {
-        if table.len() != 1000 {
+        let Some(table) = table.as_mut_array::<1000>() else {
             return Err((self, Fault::of(Refusal::WrongSize)));
-        }
+        };
         match self.body.check_open(l, guards) {
             Err(f) => Err((self, f)),
             Ok(()) => {
@@ -95,15 +95,7 @@ impl OpenLoop {
         ensures exact { result.now ≡ guards_in self.now }
         ensures few { length result.now ≤ 8 }
     {
-        &self.guards[0..self.count as usize]
-    }
-
-    fn advance(&mut self, body: Body)
-        requires on { self.old.body.last ≤ body.last }
-        requires given { body.given ≡ self.old.body.given }
-        ensures { Moved self.old body self.new }
-    {
-        self.body = body;
+        &self.guards[..usize::from(self.count)]
     }
 
     // Adds the conclusion of a rule book.
@@ -116,14 +108,9 @@ impl OpenLoop {
     ) -> Result<u16, Fault>
         ensures { Called view_loop (the_infer (B.meaning book.now evidence) cites.now) (answer_of result) self.old table.old self.new table.new }
     {
-        if table.len() != 1000 {
-            return Err(Fault::of(Refusal::WrongSize));
-        }
-        let mut body = self.body;
-        let draft = inferred(body.lines(table), Some(self.first), book, cites, evidence);
-        let answer = body.add(table, draft);
-        self.advance(body);
-        answer
+        let first = Some(self.first);
+        self.body
+            .adding(table, |lines| inferred(lines, first, book, cites, evidence))
     }
 
     // Tests a close but for the table's size.
@@ -176,9 +163,9 @@ impl OpenLoop {
     ) -> Result<(Sealed, u16), (OpenLoop, Fault)>
         ensures { Closed (the_close covers.now) result self table.old table.new }
     {
-        if table.len() != 1000 {
+        let Some(table) = table.as_mut_array::<1000>() else {
             return Err((self, Fault::of(Refusal::WrongSize)));
-        }
+        };
         match self.check_close(self.body.lines(table), covers) {
             Err(f) => Err((self, f)),
             Ok(()) => {
@@ -218,9 +205,9 @@ impl OpenLoop {
     pub fn abandon(self, table: &mut [Line]) -> Result<(Sealed, u16), (OpenLoop, Fault)>
         ensures { Abandoned result self table.old table.new }
     {
-        if table.len() != 1000 {
+        let Some(table) = table.as_mut_array::<1000>() else {
             return Err((self, Fault::of(Refusal::WrongSize)));
-        }
+        };
         let last = self.first - 1;
         blank_between(table, last, self.body.last);
         let sealed = self.taken_back();

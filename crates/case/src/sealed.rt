@@ -4,7 +4,7 @@ ghost use Rattle.case.specs.View.{view_sealed};
 ghost use Rattle.case.specs.Calling.{Called, answer_of};
 
 use crate::stage::Sealed;
-use clause::refusal::{Fault, Refusal};
+use clause::refusal::Fault;
 use clause::syntax::Literal;
 use drafts::draws::{drawn, drawn_alone};
 use drafts::infers::inferred;
@@ -24,44 +24,28 @@ impl Sealed {
     pub fn wait_line(&mut self, table: &mut [Line], n: u16) -> Result<u16, Fault>
         ensures { Called view_sealed (the_wait_line n) (answer_of result) self.old table.old self.new table.new }
     {
-        if table.len() != 1000 {
-            return Err(Fault::of(Refusal::WrongSize));
-        }
-        let draft = waited(self.body.lines(table), n);
-        self.body.add(table, draft)
+        self.body.adding(table, |lines| waited(lines, n))
     }
 
     // Adds that what waits for the literal now, waits for it next or has it next.
     pub fn wait_literal(&mut self, table: &mut [Line], l: Literal) -> Result<u16, Fault>
         ensures { Called view_sealed (the_wait_literal l) (answer_of result) self.old table.old self.new table.new }
     {
-        if table.len() != 1000 {
-            return Err(Fault::of(Refusal::WrongSize));
-        }
-        let draft = waits(l);
-        self.body.add(table, draft)
+        self.body.adding(table, |_| waits(l))
     }
 
     // Adds what a never line and an eventuality line with its literal come to.
     pub fn draw(&mut self, table: &mut [Line], n: u16, m: u16) -> Result<u16, Fault>
         ensures { Called view_sealed (the_draw n m) (answer_of result) self.old table.old self.new table.new }
     {
-        if table.len() != 1000 {
-            return Err(Fault::of(Refusal::WrongSize));
-        }
-        let draft = drawn(self.body.lines(table), n, m);
-        self.body.add(table, draft)
+        self.body.adding(table, |lines| drawn(lines, n, m))
     }
 
     // Adds what a never line comes to alone, with the letter that waits for its literal.
     pub fn draw_alone(&mut self, table: &mut [Line], n: u16) -> Result<u16, Fault>
         ensures { Called view_sealed (the_draw_alone n) (answer_of result) self.old table.old self.new table.new }
     {
-        if table.len() != 1000 {
-            return Err(Fault::of(Refusal::WrongSize));
-        }
-        let draft = drawn_alone(self.body.lines(table), n);
-        self.body.add(table, draft)
+        self.body.adding(table, |lines| drawn_alone(lines, n))
     }
 
     // Adds the conclusion of a rule book.
@@ -74,10 +58,6 @@ impl Sealed {
     ) -> Result<u16, Fault>
         ensures { Called view_sealed (the_infer (B.meaning book.now evidence) cites.now) (answer_of result) self.old table.old self.new table.new }
     {
-        if table.len() != 1000 {
-            return Err(Fault::of(Refusal::WrongSize));
-        }
-        let draft = inferred(self.body.lines(table), None, book, cites, evidence);
-        self.body.add(table, draft)
+        self.body.adding(table, |lines| inferred(lines, None, book, cites, evidence))
     }
 }

@@ -27,6 +27,7 @@ pub struct Sealed {
 }
 
 // A case with an open loop, whose lines begin at `first`. It cannot be let go: close or abandon ends it.
+// It holds plain numbers beside the lent table and no list of its own, so of its 8 places for guards the first `count` hold one.
 pub struct OpenLoop {
     pub(crate) body: Body,
     pub(crate) first: u16,

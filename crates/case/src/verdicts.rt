@@ -19,11 +19,7 @@ use runs::source::RunSource;
 fn asked_by(lines: &[Line]) -> u64
     ensures { AllAsked (lines_of lines.now) result }
 {
-    let mut asked = 0;
-    for line in lines {
-        asked |= asks(line.clause);
-    }
-    asked
+    lines.iter().fold(0, |asked, line| asked | asks(line.clause))
 }
 
 // The lowest line that the run breaks, and the lowest moment.
@@ -57,9 +53,9 @@ impl Sealed {
     pub fn refute(&self, table: &[Line], n: u16, row: &mut [u16]) -> Result<u16, Fault>
         ensures { Refuted n result self.now table.now row.old row.new }
     {
-        if table.len() != 1000 {
+        let Some(table) = table.as_array::<1000>() else {
             return Err(Fault::of(Refusal::WrongSize));
-        }
+        };
         if row.len() != 200 {
             return Err(Fault::of(Refusal::WrongSize));
         }
@@ -72,10 +68,10 @@ impl Sealed {
     pub fn show<R: RunSource>(&self, table: &[Line], source: &R) -> Result<(u16, u16), Fault>
         ensures { Shown (R.meaning source.now) result self.now table.now }
     {
-        if table.len() != 1000 {
+        let Some(table) = table.as_array::<1000>() else {
             return Err(Fault::of(Refusal::WrongSize));
-        }
-        let lines = &table[0..self.body.given as usize];
+        };
+        let lines = &table[..usize::from(self.body.given)];
         let moments = Moments::read(source, asked_by(lines));
         match first_broken(lines, &moments) {
             Some((n, i)) => Err(Fault::at(Refusal::RunBreaks, n, i)),

@@ -1,14 +1,14 @@
-use Rattle.std.proofs.Common.{refl, arith}
-use Rattle.protocol.specs.Calls.{abandon}
-use Rattle.case.specs.View.{view_sealed, view_loop}
-use Rattle.case.proofs.Turning.{turned_wrong, abandoned_ok}
+use Rattle.std.proofs.Common.{◌≡◌, ◌-◌, List, length, refl, ap, ◌∙◌, subst, rules, arith}
+use Rattle.lines.specs.declared.line.Line.{Line}
+use Rattle.lines.specs.View.{Blanked}
+use Rattle.case.proofs.Turning.{abandoned_ok}
 use Rattle.case.proofs.stage.OpenLoop.abandon.Goals as goal
-
-pub returns-then-table-ne1000 : goal.returns-then-table-ne1000
-returns-then-table-ne1000 c = (turned_wrong view_loop view_sealed abandon c.args.self c.args.table.now _ c.if-table-ne1000.true c.of.ensures, refl)
 
 pub returns : goal.returns
 returns c =
-    let o = c.args.self in
-    let b = c.blank_between.ensures (omega (arith, o.placed)) (omega (arith, o.body.fits)) in
-    (abandoned_ok o c.args.table.now _ c.taken_back-sealed.result _ (omega arith) c.blank_between.auto.table c.taken_back-sealed.ensures.last c.taken_back-sealed.ensures.given refl b, b)
+    let o = c.args.self in let t = c.args.table.now in
+    let e : c.in-Some.table.now ≡ t = search rules in
+    let long : length t ≡ 1000 = search rules in
+    let wide : length c.in-Some.table.now ≡ 1000 = ap length e ∙ long in
+    let b = subst (λ (u : List Line). Blanked (o.first - 1) o.body.last u c.blank_between.new.table) e (c.blank_between.ensures (omega (arith, o.placed)) (omega (arith, wide, o.body.fits))) in
+    (abandoned_ok o t _ c.taken_back-sealed.result _ long (c.blank_between.auto.table ∙ ap length e) c.taken_back-sealed.ensures.last c.taken_back-sealed.ensures.given refl b, b)

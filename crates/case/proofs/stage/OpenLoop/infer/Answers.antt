@@ -1,21 +1,15 @@
-use Rattle.std.proofs.Common.{◌≡◌, length, Some, refl, arith}
+use Rattle.std.proofs.Common.{Some, take, refl, ap, rules}
 use Rattle.protocol.specs.Calls.{infer}
-use Rattle.case.specs.View.{view_loop, stage_of}
-use Rattle.case.proofs.Growing.{wrong_size, stage_draft}
-use Rattle.case.proofs.Turning.{loop_adds}
+use Rattle.case.specs.declared.stage.Body.{Body}
+use Rattle.case.specs.View.{stage_of}
+use Rattle.lines.specs.Named.{LoopFrom}
+use Rattle.case.proofs.Growing.{stage_draft}
+use Rattle.case.proofs.Turning.{loop_call, same_loop}
 use Rattle.case.proofs.stage.OpenLoop.infer.Goals as goal
-
-pub returns-then-table-ne1000 : goal.returns-then-table-ne1000
-returns-then-table-ne1000 g c =
-    wrong_size view_loop (infer (g.B.RuleBook.meaning c.args.book.now c.args.evidence) c.args.cites.now) _ c.args.self.now c.args.table.now c.if-table-ne1000.true c.of.ensures
-
-pub advance-requires : goal.advance-requires
-advance-requires g c = record { on = c.add-answer.ensures.on; given = c.add-answer.ensures.given }
 
 pub returns : goal.returns
 returns g c =
-    let o = c.args.self.now in let t = c.args.table.now in
-    let k = infer (g.B.RuleBook.meaning c.args.book.now c.args.evidence) c.args.cites.now in
-    let long : length t ≡ 1000 = omega arith in
-    loop_adds k _ c.add-answer.result o t _ _ _ long c.add-answer.auto.table tt tt
-    (stage_draft k _ o.body t c.lines.result.now (Some o.first) (stage_of o) c.lines.ensures (λ n. refl) c.inferred-draft.ensures) c.add-answer.ensures.adds c.advance.ensures
+    let o = c.args.self.now in
+    loop_call (infer (g.B.RuleBook.meaning c.args.book.now c.args.evidence) c.args.cites.now) c.adding.result o c.args.table.now _ _ c.adding.auto.table tt tt refl
+    (λ n. let p = c.adding.ensures.wrong n in (p.0, same_loop o c.adding.new.self p.1 _ _ _ _ _, p.2))
+    (λ long. let p = c.adding.ensures.right long in let w = p.1 in let e = w.1 in let from : LoopFrom (Some o.first) (stage_of o) = λ n. refl in (p.0, search (rules, stage_draft (Some o.first) (stage_of o), w.2, from), p.2))

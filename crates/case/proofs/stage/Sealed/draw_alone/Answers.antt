@@ -1,14 +1,8 @@
-use Rattle.std.proofs.Common.{◌≡◌, length, arith}
+use Rattle.std.proofs.Common.{take, rules}
 use Rattle.protocol.specs.Calls.{draw_alone}
-use Rattle.case.specs.View.{view_sealed}
-use Rattle.case.proofs.Growing.{wrong_size, sealed_adds, sealed_draft}
+use Rattle.case.proofs.Growing.{sealed_call, sealed_draft}
 use Rattle.case.proofs.stage.Sealed.draw_alone.Goals as goal
 
-pub returns-then-table-ne1000 : goal.returns-then-table-ne1000
-returns-then-table-ne1000 c = wrong_size view_sealed (draw_alone c.args.n) _ c.args.self.now c.args.table.now c.if-table-ne1000.true c.of.ensures
-
 pub returns : goal.returns
-returns c =
-    let s = c.args.self.now in let t = c.args.table.now in let k = draw_alone c.args.n in
-    let long : length t ≡ 1000 = omega arith in
-    sealed_adds k _ c.add.result s t _ _ long c.add.auto.table tt tt (sealed_draft k _ s.body t c.lines.result.now c.lines.ensures c.drawn_alone-draft.ensures) c.add.ensures.adds
+returns c = sealed_call (draw_alone c.args.n) c.adding.result c.args.self.now c.args.table.now _ _ c.adding.auto.table tt tt c.adding.ensures.wrong
+    (λ long. let p = c.adding.ensures.right long in let w = p.1 in let e = w.1 in (p.0, search (rules, sealed_draft, w.2), p.2))

@@ -1,18 +1,10 @@
-use Rattle.std.proofs.Common.{◌≡◌, length, None, refl, arith}
+use Rattle.std.proofs.Common.{None, take, refl, rules}
 use Rattle.protocol.specs.Calls.{infer}
 use Rattle.protocol.specs.State.{sealed}
-use Rattle.case.specs.View.{view_sealed}
-use Rattle.case.proofs.Growing.{wrong_size, sealed_adds, stage_draft}
+use Rattle.lines.specs.Named.{LoopFrom}
+use Rattle.case.proofs.Growing.{sealed_call, stage_draft}
 use Rattle.case.proofs.stage.Sealed.infer.Goals as goal
 
-pub returns-then-table-ne1000 : goal.returns-then-table-ne1000
-returns-then-table-ne1000 g c =
-    wrong_size view_sealed (infer (g.B.RuleBook.meaning c.args.book.now c.args.evidence) c.args.cites.now) _ c.args.self.now c.args.table.now c.if-table-ne1000.true c.of.ensures
-
 pub returns : goal.returns
-returns g c =
-    let s = c.args.self.now in let t = c.args.table.now in
-    let k = infer (g.B.RuleBook.meaning c.args.book.now c.args.evidence) c.args.cites.now in
-    let long : length t ≡ 1000 = omega arith in
-    sealed_adds k _ c.add.result s t _ _ long c.add.auto.table tt tt
-    (stage_draft k _ s.body t c.lines.result.now None sealed c.lines.ensures (λ n. refl) c.inferred-draft.ensures) c.add.ensures.adds
+returns g c = sealed_call (infer (g.B.RuleBook.meaning c.args.book.now c.args.evidence) c.args.cites.now) c.adding.result c.args.self.now c.args.table.now _ _ c.adding.auto.table tt tt c.adding.ensures.wrong
+    (λ long. let p = c.adding.ensures.right long in let w = p.1 in let e = w.1 in let from : LoopFrom None sealed = λ n. refl in (p.0, search (rules, stage_draft None sealed, w.2, from), p.2))

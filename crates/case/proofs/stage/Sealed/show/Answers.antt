@@ -1,4 +1,4 @@
-use Rattle.std.proofs.Common.{◌≡◌, ℕ, ◌-◌, List, length, take, Some, None, Ok, Err, Option, subst, arith}
+use Rattle.std.proofs.Common.{◌≡◌, ℕ, List, Option, length, take, Some, None, Ok, Err, subst, rules}
 use Rattle.clause.specs.Meaning.{Run}
 use Rattle.lines.specs.declared.line.Line.{Line}
 use Rattle.lines.specs.View.{lines_of}
@@ -7,19 +7,24 @@ use Rattle.case.proofs.Showing.{show_broken, show_kept, shown_call}
 use Rattle.case.proofs.stage.Sealed.show.Goals as goal
 
 -- the given lines as the code cuts them
-cut : (given : ℕ) (t : List Line) (r : Run) (o : Option (ℕ × ℕ)) → Lowest r (lines_of (take (given - 0) t)) o → Lowest r (lines_of (take given t)) o
-cut given t r o q = let z : given - 0 ≡ given = omega arith in subst (λ n. Lowest r (lines_of (take n t)) o) z q
+cut : (given m : ℕ) (t u : List Line) (r : Run) (o : Option (ℕ × ℕ)) → m ≡ given → u ≡ t → Lowest r (lines_of (take m u)) o → Lowest r (lines_of (take given t)) o
+cut given m t u r o d e q = subst (λ n. Lowest r (lines_of (take n t)) o) d (subst (λ xs. Lowest r (lines_of (take m xs)) o) e q)
 
-pub returns-in-Some : goal.returns-in-Some
-returns-in-Some g c =
+pub returns-in-Some-first_broken : goal.returns-in-Some-first_broken
+returns-in-Some-first_broken g c =
     let x = g.R.RunSource.meaning c.args.source.now in let s = c.args.self.now in let t = c.args.table.now in
-    let long : length t ≡ 1000 = omega arith in
-    shown_call s t x long (Err c.at.result) (show_broken s t x long c.in-Some.n c.in-Some.i _ c.at.ensures
-    (cut s.body.given t x.run (Some (c.in-Some.n, c.in-Some.i)) (c.in-Some.ensures x c.asked_by.result c.read-moments.ensures c.asked_by.ensures)))
+    let e : c.in-Some.table.now ≡ t = search rules in
+    let d : c.from.result ≡ s.body.given = search rules in
+    let long : length t ≡ 1000 = search rules in
+    let n = c.in-Some-first_broken.n in let i = c.in-Some-first_broken.i in
+    shown_call s t x long (Err c.at.result) (show_broken s t x long n i _ c.at.ensures
+    (cut s.body.given c.from.result t c.in-Some.table.now x.run (Some (n, i)) d e (c.in-Some-first_broken.ensures x c.asked_by.result c.read-moments.ensures c.asked_by.ensures)))
 
 pub returns-in-None : goal.returns-in-None
 returns-in-None g c =
     let x = g.R.RunSource.meaning c.args.source.now in let s = c.args.self.now in let t = c.args.table.now in
-    let long : length t ≡ 1000 = omega arith in
+    let e : c.in-Some.table.now ≡ t = search rules in
+    let d : c.from.result ≡ s.body.given = search rules in
+    let long : length t ≡ 1000 = search rules in
     shown_call s t x long (Ok (c.lead_in.result, c.loop_length.result)) (show_kept s t x long _ _ c.lead_in.ensures c.loop_length.ensures
-    (cut s.body.given t x.run None (c.in-None.ensures x c.asked_by.result c.read-moments.ensures c.asked_by.ensures)))
+    (cut s.body.given c.from.result t c.in-Some.table.now x.run None d e (c.in-None.ensures x c.asked_by.result c.read-moments.ensures c.asked_by.ensures)))

@@ -1,14 +1,18 @@
-use Rattle.std.proofs.Common.{◌≡◌, length, take, refl, arith}
-use Rattle.protocol.specs.Calls.{wait_literal}
-use Rattle.case.specs.View.{view_sealed}
-use Rattle.case.proofs.Growing.{wrong_size, sealed_adds, sealed_draft}
+use Rattle.std.proofs.Common.{◌≡◌, List, Result, take, refl, rules}
+use Rattle.clause.specs.declared.refusal.Fault.{Fault}
+use Rattle.protocol.specs.State as model
+use Rattle.protocol.specs.Calls.{Call, wait_literal}
+use Rattle.lines.specs.declared.line.Line.{Line}
+use Rattle.drafts.specs.Drafts.{Drafted, SealedDraft}
+use Rattle.case.specs.declared.stage.Body.{Body}
+use Rattle.case.specs.View.{view_at}
+use Rattle.case.proofs.Growing.{sealed_call, sealed_draft}
 use Rattle.case.proofs.stage.Sealed.wait_literal.Goals as goal
 
-pub returns-then-table-ne1000 : goal.returns-then-table-ne1000
-returns-then-table-ne1000 c = wrong_size view_sealed (wait_literal c.args.l) _ c.args.self.now c.args.table.now c.if-table-ne1000.true c.of.ensures
+-- what is drafted whatever the lines are
+any_draft : (c : Call) (d r : Result Line Fault) (b : Body) (t : List Line) → d ≡ r → ((ls : List Line) → SealedDraft ls c r) → Drafted (view_at model.sealed b t) c d
+any_draft c d r b t e q = sealed_draft c d r b t (take b.last t) e refl (q (take b.last t))
 
 pub returns : goal.returns
-returns c =
-    let s = c.args.self.now in let t = c.args.table.now in let k = wait_literal c.args.l in
-    let long : length t ≡ 1000 = omega arith in
-    sealed_adds k _ c.add.result s t _ _ long c.add.auto.table tt tt (sealed_draft k _ s.body t (take s.body.last t) refl (c.waits-draft.ensures (take s.body.last t))) c.add.ensures.adds
+returns c = sealed_call (wait_literal c.args.l) c.adding.result c.args.self.now c.args.table.now _ _ c.adding.auto.table tt tt c.adding.ensures.wrong
+    (λ long. let p = c.adding.ensures.right long in let e = p.1.1 in (p.0, search (rules, any_draft), p.2))
