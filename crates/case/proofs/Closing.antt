@@ -24,12 +24,12 @@ module _ (o : OpenLoop) (ls : List Line) (ns : List ℕ) (same : length ns ≡ l
   counted : (f : Fault) → First (named here ns ++ later) f → First (causes here (close ns)) f
   counted f q = inr (not_if _ WrongCount (λ z. z same), q)
 
-  pub close_lines : (f : Fault) → ((st : model.Stage) (g : ℕ) → LoopFrom (Some o.first) st → First (named (at_stage st g (lines_of ls)) ns) f) → First (causes here (close ns)) f
-  close_lines f q = counted f (first_left (named here ns) later f (q (stage_of o) o.body.given (λ n. refl)))
+  pub close_lines : (f : Fault) → ((st : model.Stage) (g : ℕ) → LoopFrom (Some o.first) (length ls) st → First (named (at_stage st g (lines_of ls)) ns) f) → First (causes here (close ns)) f
+  close_lines f q = counted f (first_left (named here ns) later f (q (stage_of o) o.body.given (λ n h. refl)))
 
-  module _ (passed : (st : model.Stage) (g : ℕ) → LoopFrom (Some o.first) st → NoneOf (named (at_stage st g (lines_of ls)) ns)) where
+  module _ (passed : (st : model.Stage) (g : ℕ) → LoopFrom (Some o.first) (length ls) st → NoneOf (named (at_stage st g (lines_of ls)) ns)) where
     past : (f : Fault) → First later f → First (causes here (close ns)) f
-    past f q = counted f (first_after (named here ns) later f (passed (stage_of o) o.body.given (λ n. refl)) q)
+    past f q = counted f (first_after (named here ns) later f (passed (stage_of o) o.body.given (λ n h. refl)) q)
 
     pub close_kind : (f : Fault) → SomeIn (λ n. NotGlobal (model.clause_at (lines_of ls) n)) ns → f ≡ plain WrongKind → First (causes here (close ns)) f
     close_kind f q e = past f (inl (q, e))
@@ -48,6 +48,6 @@ module _ (o : OpenLoop) (ls : List Line) (ns : List ℕ) (same : length ns ≡ l
         pub close_none : length ls + length ns ≤ 1000 → NoneOf (causes here (close ns))
         close_none h = (
           not_if _ WrongCount (λ z. z same),
-          none_both (named here ns) later (passed (stage_of o) o.body.given (λ n. refl))
+          none_both (named here ns) later (passed (stage_of o) o.body.given (λ n h. refl))
               (none_both (covering (lines_of ls) ns (guards_in o)) (full here (length ns)) none_covering (not_if _ NoRoom (λ q. omega (arith, length-map ls line_of)), tt)),
         )

@@ -134,7 +134,7 @@ pub sealed_draft : (c : Call) (d r : Result Line Fault) (b : Body) (t ls : List 
 sealed_draft c d r b t ls h e q =
     subst (λ (x : Result Line Fault). Drafted (view_at model.sealed b t) c x) (sym h) (subst (λ (xs : List Line). SealedDraft xs c r) e q b.given)
 
-pub stage_draft : (first : Option ℕ) (st : model.Stage) (c : Call) (d r : Result Line Fault) (b : Body) (t ls : List Line) → LoopFrom first st → d ≡ r → ls ≡ take b.last t → StageDraft first ls c r → Drafted (view_at st b t) c d
+pub stage_draft : (first : Option ℕ) (st : model.Stage) (c : Call) (d r : Result Line Fault) (b : Body) (t ls : List Line) → LoopFrom first (length ls) st → d ≡ r → ls ≡ take b.last t → StageDraft first ls c r → Drafted (view_at st b t) c d
 stage_draft first st c d r b t ls from h e q =
     subst (λ (x : Result Line Fault). Drafted (view_at st b t) c x) (sym h) (subst (λ (xs : List Line). StageDraft first xs c r) e q st b.given from)
 

@@ -9,7 +9,7 @@ use clause::refusal::{Fault, Refusal};
 use cores::core_of;
 use drafts::kinds::check_refutable;
 use lines::line::Line;
-use lines::named::Named;
+use lines::named::check_named;
 use lines::places::line_at;
 use runs::moments::Moments;
 use runs::reads::asks;
@@ -39,12 +39,7 @@ fn first_broken(lines: &[Line], moments: &Moments) -> Option<(u16, u16)>
 fn check_refute(lines: &[Line], n: u16) -> Result<(), Fault>
     ensures { Refutable lines.now n result }
 {
-    let numbers = [n];
-    Named {
-        lines,
-        numbers: &numbers,
-    }
-    .check(None)?;
+    check_named(lines, None, &[n])?;
     check_refutable(line_at(lines, n).clause)
 }
 

@@ -13,18 +13,18 @@ after : (Ps Qs : List Cause) (r : Result (Unit {0}) Fault) → NoneOf Ps → Che
 after Ps Qs (Ok _) n q = none_both Ps Qs n q
 after Ps Qs (Err f) n q = first_after Ps Qs f n q
 
-pub returns-in_err-check : goal.returns-in_err-check
-returns-in_err-check c g h =
+pub returns-in_err-check_named : goal.returns-in_err-check_named
+returns-in_err-check_named c g h =
     let t = c.args.lines.now in let n = c.args.n in
     let s = at_stage model.sealed g (lines_of t) in
     let Ps = named s (n ∷ []) in let Qs = refutable (model.clause_at (lines_of t) n) in
     let p = err_from_is_err_and c.from_residual.result c.from_residual.ensures.1 in
     subst (λ (r : Result (Unit {0}) Fault). Checked (Ps ++ Qs) r) (sym p.1)
-    (subst (λ (f : Fault). First (Ps ++ Qs) f) (sym p.2) (first_left Ps Qs _ (c.in_err-check.ensures model.sealed g (λ n. refl))))
+    (subst (λ (f : Fault). First (Ps ++ Qs) f) (sym p.2) (first_left Ps Qs _ (c.in_err-check_named.ensures model.sealed g (λ n h. refl))))
 
 pub returns : goal.returns
 returns c g h =
     let t = c.args.lines.now in let n = c.args.n in
     let s = at_stage model.sealed g (lines_of t) in
-    after (named s (n ∷ [])) (refutable (model.clause_at (lines_of t) n)) c.check_refutable.result (c.in_ok-check.ensures model.sealed g (λ n. refl))
+    after (named s (n ∷ [])) (refutable (model.clause_at (lines_of t) n)) c.check_refutable.result (c.in_ok-check_named.ensures model.sealed g (λ n h. refl))
     (subst (λ (l : model.Line). Checked (refutable l.clause) c.check_refutable.result) c.line_at.ensures c.check_refutable.ensures)

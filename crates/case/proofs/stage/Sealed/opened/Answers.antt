@@ -9,7 +9,7 @@ returns c =
     record {
       first = refl;
       literal = refl;
-      guards = front_is none c.args.guards.now c.first_8.result few (c.first_8.ensures few);
+      guards = front_is none c.args.guards.now c.first_8.result few (c.first_8.ensures.few few);
       given = c.grown-body.ensures.given;
       last = c.grown-body.ensures.last;
     }
