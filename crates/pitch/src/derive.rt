@@ -1,3 +1,5 @@
+ghost use Rattle.std.specs.Prelude.{◌≡◌, length};
+
 use crate::frame::give;
 use crate::task::{no, yes};
 use case::stage::{OpenLoop, Sealed};
@@ -18,7 +20,9 @@ fn give_figures(table: &mut [Line]) -> Result<Sealed, Fault> {
 }
 
 // Ends a loop without a result, and says why.
-fn give_up(open: OpenLoop, table: &mut [Line; 1000], why: Fault) -> Fault {
+fn give_up(open: OpenLoop, table: &mut [Line], why: Fault) -> Fault
+    requires { length table.old ≡ 1000 }
+{
     match open.abandon(table) {
         Ok(_) => why,
         Err(_) => unreachable(),
@@ -33,7 +37,9 @@ fn loop_lines(open: &mut OpenLoop, table: &mut [Line]) -> Result<(), Fault> {
 }
 
 // The steps within the loop, and its end.
-fn loop_steps(mut open: OpenLoop, table: &mut [Line; 1000]) -> Result<Sealed, Fault> {
+fn loop_steps(mut open: OpenLoop, table: &mut [Line]) -> Result<Sealed, Fault>
+    requires { length table.old ≡ 1000 }
+{
     if let Err(f) = loop_lines(&mut open, table) {
         return Err(give_up(open, table, f));
     }
@@ -44,7 +50,9 @@ fn loop_steps(mut open: OpenLoop, table: &mut [Line; 1000]) -> Result<Sealed, Fa
 }
 
 // From each moment at which 1 holds, 0 is never true again: a loop for +0 with the guard -1.
-fn never_again(sealed: Sealed, table: &mut [Line; 1000]) -> Result<Sealed, Fault> {
+fn never_again(sealed: Sealed, table: &mut [Line]) -> Result<Sealed, Fault>
+    requires { length table.old ≡ 1000 }
+{
     match sealed.open(table, yes(0), &[LitSet::of(no(1))]) {
         Ok((open, _)) => loop_steps(open, table),
         Err((_, f)) => Err(f),

@@ -29,12 +29,11 @@ fn print_verdict(rt: &impl Print, verdict: Result<Span, Fault>) -> io::Result<()
         }
         Err(f) => {
             print!(rt; "  refused ({})", f.number())?;
-            let given = f
-                .line
-                .checked_sub(1)
-                .and_then(|i| GIVEN.get(usize::from(i)));
-            if let Some(given) = given {
-                print!(rt; ": line {} is broken at {} ms: {given}", f.line, f.detail)?;
+            if let Some(given) = GIVEN.iter().zip(1..7u16).find(|p| p.1 == f.line) {
+                print!(rt;
+                    ": line {} is broken at {} ms: {}",
+                    f.line, f.detail, given.0
+                )?;
             }
             println!(rt; "")
         }
@@ -75,7 +74,7 @@ fn print_core(
     match verdict {
         Ok(Contradiction { line, count }) => {
             print!(rt; "  contradiction: line {line} is empty, its core is")?;
-            for n in row.iter().take(usize::from(count)) {
+            for n in row.iter().take(count as usize) {
                 print!(rt; " {n}")?;
             }
             println!(rt; "")
