@@ -136,7 +136,7 @@ sealed_draft c d r b t ls h e q =
 
 pub stage_draft : (first : Option ℕ) (st : model.Stage) (c : Call) (d r : Result Line Fault) (b : Body) (t ls : List Line) → LoopFrom first (length ls) st → d ≡ r → ls ≡ take b.last t → StageDraft first ls c r → Drafted (view_at st b t) c d
 stage_draft first st c d r b t ls from h e q =
-    subst (λ (x : Result Line Fault). Drafted (view_at st b t) c x) (sym h) (subst (λ (xs : List Line). StageDraft first xs c r) e q st b.given from)
+    subst (λ (x : Result Line Fault). Drafted (view_at st b t) c x) (sym h) (subst (λ (xs : List Line). StageDraft first xs c r) e q st b.given (subst (λ (xs : List Line). LoopFrom first (length xs) st) e from))
 
 -- a call on a sealed case that drafts one line
 pub sealed_call : (c : Call) (r : Result ℕ Fault) (s : Sealed) (t : List Line) (s' : Sealed) (t' : List Line) → length t' ≡ length t → Exists model.sealed c → Adding c
@@ -145,7 +145,7 @@ pub sealed_call : (c : Call) (r : Result ℕ Fault) (s : Sealed) (t : List Line)
 sealed_call c r s t s' t' same x ad w q = ⊎_elim
     (λ e. let p = q e in sealed_adds c p.0 r s t s' t' e same x ad p.1 p.2)
     (λ n. let p = w n in
-        subst (λ (u : Result ℕ Fault). Called view_sealed c (answer_of u) s t s' t') (sym p.0)
-        (subst (λ (u : Body). Called view_sealed c (refused (plain WrongSize)) s t (record { body = u }) t') (sym p.1)
-        (subst (λ (u : List Line). Called view_sealed c (refused (plain WrongSize)) s t s u) (sym p.2) (wrong_size view_sealed c (plain WrongSize) s t n refl))))
+    subst (λ (u : Result ℕ Fault). Called view_sealed c (answer_of u) s t s' t') (sym p.0)
+    (subst (λ (u : Body). Called view_sealed c (refused (plain WrongSize)) s t (record { body = u }) t') (sym p.1)
+    (subst (λ (u : List Line). Called view_sealed c (refused (plain WrongSize)) s t s u) (sym p.2) (wrong_size view_sealed c (plain WrongSize) s t n refl))))
     (cases_eq (length t) 1000)

@@ -82,11 +82,11 @@ pub same_loop : (o : OpenLoop) (b : Body) → b ≡ o.body → (own : b.given + 
     → ◌≡◌ {A = OpenLoop} (record { body = b; first = o.first; literal = o.literal; guards = o.guards; count = o.count; own = own; placed = placed; guarded = guarded; plain = plain; narrow = narrow }) o
 same_loop o b e = subst
     (λ (q : Body). (own : q.given + 1 ≤ o.first) (placed : o.first ≤ q.last + 1) (guarded : o.count ≤ 8) (plain : o.literal.letter ≤ 19) (narrow : ¬ SomeOver (guards_in o))
-        → ◌≡◌ {A = OpenLoop} (record { body = q; first = o.first; literal = o.literal; guards = o.guards; count = o.count; own = own; placed = placed; guarded = guarded; plain = plain; narrow = narrow }) o)
+    → ◌≡◌ {A = OpenLoop} (record { body = q; first = o.first; literal = o.literal; guards = o.guards; count = o.count; own = own; placed = placed; guarded = guarded; plain = plain; narrow = narrow }) o)
     (sym e)
     (λ own placed guarded plain narrow.
-        let n : narrow ≡ o.narrow = λ i x. (let p : narrow x ≡ o.narrow x = absurd (narrow x) in p i) in
-        λ i. record { body = o.body; first = o.first; literal = o.literal; guards = o.guards; count = o.count; own = le_prop own o.own i; placed = le_prop placed o.placed i; guarded = le_prop guarded o.guarded i; plain = le_prop plain o.plain i; narrow = n i })
+    let n : narrow ≡ o.narrow = λ i x. (let p : narrow x ≡ o.narrow x = absurd (narrow x) in p i) in
+    λ i. record { body = o.body; first = o.first; literal = o.literal; guards = o.guards; count = o.count; own = le_prop own o.own i; placed = le_prop placed o.placed i; guarded = le_prop guarded o.guarded i; plain = le_prop plain o.plain i; narrow = n i })
 
 -- infer in a loop
 pub loop_call : (c : Call) (r : Result ℕ Fault) (o : OpenLoop) (t : List Line) (o' : OpenLoop) (t' : List Line) → length t' ≡ length t → Exists (stage_of o) c → Adding c
@@ -94,22 +94,22 @@ pub loop_call : (c : Call) (r : Result ℕ Fault) (o : OpenLoop) (t : List Line)
     → (length t ≡ 1000 → (d : Result Line Fault) × Drafted (view_loop o t) c d × AddsDraft d r o.body t o'.body t') → Called view_loop c (answer_of r) o t o' t'
 loop_call c r o t o' t' same x ad es w q = ⊎_elim
     (λ long.
-        let p = q long in
-        let k = p.2 (stage_of o) c ad p.1 in
-        let v : view_at (stage_of o) o'.body t' ≡ view_loop o' t' = ap (λ st. view_at st o'.body t') (sym es) in
-        let e = front_length o.body.last t (omega (arith, o.body.fits)) in
-        let e' = front_length o'.body.last t' (omega (arith, o'.body.fits)) in
-        let a : Answered (view_loop o t) c (answer_of r) (view_loop o' t') = subst (λ (u : model.State). Answered (view_loop o t) c (answer_of r) u) v k.answered in
-        record {
-          exact = record { wrong = λ z. absurd (z long); right = λ _. a };
-          place = subst (λ (u : model.State). Placed (answer_of r) (view_loop o t) t u t') v k.place;
-          onward = λ _. leads c (answer_of r) (view_loop o t) t (view_loop o' t') t' x a
-              (λ z. subst (λ n. BlankFrom n t') (sym e') (k.blank (subst (λ n. BlankFrom n t) e z)));
-        })
+    let p = q long in
+    let k = p.2 (stage_of o) c ad p.1 in
+    let v : view_at (stage_of o) o'.body t' ≡ view_loop o' t' = ap (λ st. view_at st o'.body t') (sym es) in
+    let e = front_length o.body.last t (omega (arith, o.body.fits)) in
+    let e' = front_length o'.body.last t' (omega (arith, o'.body.fits)) in
+    let a : Answered (view_loop o t) c (answer_of r) (view_loop o' t') = subst (λ (u : model.State). Answered (view_loop o t) c (answer_of r) u) v k.answered in
+    record {
+      exact = record { wrong = λ z. absurd (z long); right = λ _. a };
+      place = subst (λ (u : model.State). Placed (answer_of r) (view_loop o t) t u t') v k.place;
+      onward = λ _. leads c (answer_of r) (view_loop o t) t (view_loop o' t') t' x a
+          (λ z. subst (λ n. BlankFrom n t') (sym e') (k.blank (subst (λ n. BlankFrom n t) e z)));
+    })
     (λ n. let p = w n in
-        subst (λ (u : Result ℕ Fault). Called view_loop c (answer_of u) o t o' t') (sym p.0)
-        (subst (λ (u : OpenLoop). Called view_loop c (refused (plain WrongSize)) o t u t') (sym p.1)
-        (subst (λ (u : List Line). Called view_loop c (refused (plain WrongSize)) o t o u) (sym p.2) (wrong_size view_loop c (plain WrongSize) o t n refl))))
+    subst (λ (u : Result ℕ Fault). Called view_loop c (answer_of u) o t o' t') (sym p.0)
+    (subst (λ (u : OpenLoop). Called view_loop c (refused (plain WrongSize)) o t u t') (sym p.1)
+    (subst (λ (u : List Line). Called view_loop c (refused (plain WrongSize)) o t o u) (sym p.2) (wrong_size view_loop c (plain WrongSize) o t n refl))))
     (cases_eq (length t) 1000)
 
 -- close

@@ -109,8 +109,7 @@ impl OpenLoop {
         ensures { Called view_loop (the_infer (B.meaning book.now evidence) cites.now) (answer_of result) self.old table.old self.new table.new }
     {
         let first = Some(self.first);
-        self.body
-            .adding(table, |lines| inferred(lines, first, book, cites, evidence))
+        self.body.adding(table, |lines| inferred(lines, first, book, cites, evidence))
     }
 
     // Tests a close but for the table's size.

@@ -19,7 +19,9 @@ use runs::source::RunSource;
 fn asked_by(lines: &[Line]) -> u64
     ensures { AllAsked (lines_of lines.now) result }
 {
-    lines.iter().fold(0, |asked, line| asked | asks(line.clause))
+    lines
+        .iter()
+        .fold(0, |asked, line| asked | asks(line.clause))
 }
 
 // The lowest line that the run breaks, and the lowest moment.
