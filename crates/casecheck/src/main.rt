@@ -13,8 +13,7 @@ use text::cases::read_case;
 const HELP: &str =
     "casecheck [CASE]\n\nJudges the case text CASE (case.txt).\nA file that cannot be opened is read as a text without bytes.\n\nPrints one line, its fields parted by tabs:\n  contradiction LINE CORE               the line refuted last, and the given lines to blame\n  open LAST                             nothing refuted; the number of the last line\n  refused NUMBER LAYER LINE FIELD DETAIL  and says why on standard error\n\nEnds with 0, or with 1 if the text is refused.";
 
-fn judge(rt: &HostRuntime, paths: &[String]) -> Result<(), Ended> {
-    let path = paths.first().map_or("case.txt", |path| path.as_str());
+fn judge(rt: &HostRuntime, path: &str) -> Result<(), Ended> {
     let text = read_text(rt, path)?;
     let mut table = [Line::blank(); 1000];
     let mut row = [0u16; 200];
@@ -24,10 +23,11 @@ fn judge(rt: &HostRuntime, paths: &[String]) -> Result<(), Ended> {
 
 // Not shared by the programs: a function that calls its parameter asks something of its caller, and no public one does.
 fn main(rt: HostRuntime) -> io::Result<ExitCode> {
-    let paths: Vec<String> = env::args(&rt)?.skip(1).collect(rt.alloc())?;
-    if asks_for_help(&paths) {
+    let path = env::args(&rt)?.nth(1);
+    if asks_for_help(path.as_slice()) {
         println!(rt; "{HELP}")?;
         return Ok(ExitCode::SUCCESS);
     }
-    exit_code(judge(&rt, &paths))
+    let path = path.as_ref().map_or("case.txt", |path| path.as_str());
+    exit_code(judge(&rt, path))
 }

@@ -3,14 +3,6 @@ ghost use Rattle.clause.specs.Refusals.{number_of, layer_of, layer_number, plain
 
 use crate::refusal::{Fault, Layer, Refusal};
 
-impl Layer {
-    pub fn number(self) -> u8
-        ensures { result ≡ layer_number self }
-    {
-        self as u8
-    }
-}
-
 impl Refusal {
     pub fn number(self) -> u8
         ensures { result ≡ number_of self }

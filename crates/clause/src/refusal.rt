@@ -1,3 +1,6 @@
+ghost use Rattle.std.specs.Prelude.{◌≡◌};
+ghost use Rattle.clause.specs.Refusals.{layer_number};
+
 // Every cause of a refusal, numbered in checking order. `specs/Refusals.antt` gives each its number and its layer.
 #[derive(Clone, Copy, PartialEq, Eq)]
 pub enum Refusal {
@@ -57,6 +60,14 @@ pub enum Layer {
     Book,
     Run,
     Case,
+}
+
+impl Layer {
+    pub fn number(self) -> u8
+        ensures { result ≡ layer_number self }
+    {
+        self as u8
+    }
 }
 
 // Why a call was refused, and where: the line, the field and the detail are 0 where they say nothing.

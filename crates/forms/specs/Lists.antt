@@ -1,5 +1,6 @@
 -- Fields that hold more than one number.
 use Rattle.std.specs.Prelude.{ℕ, ◌+◌, ◌-◌, ◌^◌, min, cond, List, [], ◌∷◌, ◌++◌, length, take, replicate, Some, None, Option, bit_or, nat_lt, slice_set}
+use Rattle.std.specs.Option.{option_or}
 use Rattle.forms.specs.declared.lists.Numbers.{Numbers}
 use Rattle.forms.specs.declared.lists.Letters.{Letters}
 use Rattle.forms.specs.Cuts.{split}
@@ -27,17 +28,12 @@ abbrev pub nine_of : Option (List ℕ) → Option Numbers
 nine_of None = None
 nine_of (Some ns) = Some (first_nine ns)
 
--- a mask with the letter n, where there is a mask
-abbrev pub with_bit : Option ℕ → ℕ → Option ℕ
-with_bit None n = None
-with_bit (Some m) n = Some (bit_or m (2 ^ n))
-
--- one letter more: from 0 to 19 in the mask, or no mask from one above on
+-- one letter more: from 0 to 19 in the mask; the first one above stands beside it
 abbrev pub with_letter : Letters → ℕ → Letters
-with_letter s n = record { mask = cond (nat_lt n 20) (with_bit s.mask n) None }
+with_letter s n = cond (nat_lt n 20) (record { mask = bit_or s.mask (2 ^ n); over = s.over }) (record { mask = s.mask; over = option_or s.over (Some n) })
 
 abbrev pub no_letters : Letters
-no_letters = record { mask = Some 0 }
+no_letters = record { mask = 0; over = None }
 
 -- the letters of a field: they rise, parted by single spaces, `.` for none
 abbrev pub letters_in : List ℕ → Option Letters

@@ -14,10 +14,11 @@ pub struct Numbers {
     pub count: u8,
 }
 
-// The letters of a world, from 0 to 19, as a mask; there is none where one letter is above.
+// The letters of a world, from 0 to 19, as a mask, and the first that is above.
 #[derive(Clone, Copy)]
 pub struct Letters {
-    pub mask: Option<u32>,
+    pub mask: u32,
+    pub over: Option<u16>,
 }
 
 impl Numbers {
@@ -47,18 +48,26 @@ impl Numbers {
 }
 
 impl Letters {
-    const NONE: Letters = Letters { mask: Some(0) };
+    const NONE: Letters = Letters {
+        mask: 0,
+        over: None,
+    };
 
     // One letter more.
     fn with(self, n: u16) -> Letters
         ensures { result ≡ with_letter self n }
     {
+        let Letters { mask, over } = self;
         if n < 20 {
             Letters {
-                mask: self.mask.map(|mask| mask | 1 << n),
+                mask: mask | 1 << n,
+                over,
             }
         } else {
-            Letters { mask: None }
+            Letters {
+                mask,
+                over: over.or(Some(n)),
+            }
         }
     }
 }

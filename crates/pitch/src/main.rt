@@ -28,14 +28,14 @@ fn print_verdict(rt: &impl Print, verdict: Result<Span, Fault>) -> io::Result<()
             println!(rt; "  kept over endless time: lead-in {lead_in} ms, then a loop of {turn} ms")
         }
         Err(f) => {
-            print!(rt; "  refused ({})", f.number())?;
-            if let Some(given) = GIVEN.iter().zip(1..7u16).find(|p| p.1 == f.line) {
-                print!(rt;
-                    ": line {} is broken at {} ms: {}",
-                    f.line, f.detail, given.0
-                )?;
+            let number = f.number();
+            match GIVEN.iter().zip(1..7u16).find(|p| p.1 == f.line) {
+                Some((given, line)) => println!(rt;
+                    "  refused ({number}): line {line} is broken at {} ms: {given}",
+                    f.detail
+                ),
+                None => println!(rt; "  refused ({number})"),
             }
-            println!(rt; "")
         }
     }
 }

@@ -14,7 +14,7 @@ pub fn guards(fields: Fields) -> Result<(Guards, u16), Fault>
     // Counted beside the loop: the field after the last is answered too, and the count stops at 65,535.
     let mut k: u16 = 3;
     for text in fields {
-        found = found.with(k, field(text, k)?);
+        found.add(k, field(text, k)?);
         k = k.saturating_add(1);
     }
     Ok((found, k))

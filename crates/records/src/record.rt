@@ -21,18 +21,25 @@ impl Guards {
         over: None,
     };
 
+    // Adds a guard, which stands in the field k. It is changed in place: a line may have thousands.
+    pub(crate) fn add(&mut self, k: u16, s: LitSet)
+        ensures { self.new ≡ with_guard self.old k s }
+    {
+        let place = usize::from(self.count.min(8));
+        let before = self.at[place];
+        self.at[place] = before.union(s);
+        self.count = self.count.min(8) + 1;
+        if self.over.is_none() && s.over(59) {
+            self.over = Some(k);
+        }
+    }
+
     // One guard more, which stands in the field k.
     pub fn with(self, k: u16, s: LitSet) -> Guards
         ensures { result ≡ with_guard self k s }
     {
         let mut guards = self;
-        let place = usize::from(guards.count.min(8));
-        let before = guards.at[place];
-        guards.at[place] = before.union(s);
-        guards.count = guards.count.min(8) + 1;
-        if guards.over.is_none() && s.over(59) {
-            guards.over = Some(k);
-        }
+        guards.add(k, s);
         guards
     }
 

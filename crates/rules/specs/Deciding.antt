@@ -1,5 +1,5 @@
 -- How a trial is decided: choices as masks of the letters of which they say yes.
-use Rattle.std.specs.Prelude.{◌≡◌, ℕ, zero, suc, ◌+◌, ◌<◌, ◌≤◌, Bool, true, false, cond, not, ◌&&◌, ◌||◌, List, length, replicate, Some, None, Option, ◌==◌, bit_and, bit_or, nat_le, nat_lt, fold}
+use Rattle.std.specs.Prelude.{◌≡◌, ℕ, zero, suc, ◌+◌, ◌<◌, ◌≤◌, Bool, true, false, cond, not, ◌&&◌, ◌||◌, List, [], ◌∷◌, length, replicate, Some, None, Option, ◌==◌, bit_and, bit_or, nat_le, nat_lt, fold}
 use Rattle.std.specs.List.{list_any, list_all}
 use Rattle.clause.specs.declared.syntax.LitSet.{LitSet}
 use Rattle.clause.specs.declared.syntax.Clause.{Clause}
@@ -32,6 +32,12 @@ broken_at x y c = untrue_at x (now_of c) && untrue_at y (next_of c)
 
 abbrev pub one_broken_at : ℕ → ℕ → List Clause → Bool
 one_broken_at x y cs = list_any (broken_at x y) cs
+
+-- the line at a place, if any, is broken
+abbrev pub place_broken : ℕ → ℕ → List Clause → ℕ → Bool
+place_broken x y [] i = false
+place_broken x y (c ∷ cs) zero = broken_at x y c
+place_broken x y (c ∷ cs) (suc i) = place_broken x y cs i
 
 abbrev pub counter_at : ℕ → ℕ → Clause → List Clause → Bool
 counter_at x y c cs = broken_at x y c && not (one_broken_at x y cs)

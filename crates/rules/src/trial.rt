@@ -1,9 +1,10 @@
-ghost use Rattle.std.specs.Prelude.{◌≡◌, ℕ, ◌+◌, true, length, count_ones};
+ghost use Rattle.std.specs.Prelude.{◌≡◌, ℕ, ◌+◌, ◌≤◌, true, not, ◌&&◌, length, count_ones};
 ghost use Rattle.std.specs.Iterator.{at_most};
+ghost use Rattle.std.specs.List.{list_any};
 ghost use Rattle.clause.specs.Tests.{Tells};
 ghost use Rattle.rules.specs.Books.{outcome_of, Tidy};
 ghost use Rattle.rules.specs.Trying.{claimed, Judged};
-ghost use Rattle.rules.specs.Deciding.{now_atoms, next_atoms, is_ever, all_ever, wide_claim, broken_at, counter_at, Sub, NextSub, suited, late_trial, all_choices, GivesChoice, choices_left};
+ghost use Rattle.rules.specs.Deciding.{now_atoms, next_atoms, is_ever, all_ever, wide_claim, untrue_at, broken_at, one_broken_at, place_broken, counter_at, Sub, NextSub, suited, late_trial, all_choices, GivesChoice, choices_left};
 ghost use Rattle.rules.specs.TryingSound.{trying};
 ghost use Rattle.std.proofs.Common.{rules};
 
@@ -24,12 +25,6 @@ impl Claim {
         ensures { result ≡ wide_claim self }
     {
         self.now.over(59) || self.next.over(59)
-    }
-
-    fn clause(self) -> Clause
-        ensures { result ≡ claimed self }
-    {
-        Clause::Global(self.now, self.next)
     }
 }
 
@@ -103,28 +98,76 @@ impl Iterator for Choices {
     }
 }
 
-// Do the choices x now and y next make each literal of the line untrue?
-fn breaks(x: u64, y: u64, line: Clause) -> bool
-    ensures { result ≡ broken_at x y line }
+// Does the choice make each literal of the set untrue?
+fn is_untrue(choice: u64, set: LitSet) -> bool
+    ensures { result ≡ untrue_at choice set }
 {
-    line.now_set().untrue_in(x) && line.next_set().untrue_in(y)
+    set.untrue_in(choice)
+}
+
+// A line with the choice y of its next letters: a choice x of the now letters breaks it where x makes each literal of this set untrue.
+fn at_next(y: u64, line: Clause) -> LitSet
+    ensures { (x : ℕ) → untrue_at x result ≡ broken_at x y line }
+{
+    if is_untrue(y, line.next_set()) {
+        line.now_set()
+    } else {
+        UNBROKEN
+    }
+}
+
+// A set of which each choice has a true literal.
+const UNBROKEN: LitSet = LitSet { plus: 1, minus: 1 };
+
+fn place_at_next(y: u64, cited: &[Clause], i: usize) -> LitSet
+    ensures { (x : ℕ) → untrue_at x result ≡ place_broken x y cited.now i }
+{
+    if i < cited.len() {
+        at_next(y, cited[i])
+    } else {
+        UNBROKEN
+    }
+}
+
+// The cited lines with the choice y, and after them sets that nothing breaks. So the next letters are looked at once for each y.
+fn all_at_next(y: u64, cited: &[Clause]) -> [LitSet; 4]
+    requires { length cited.now ≤ 4 }
+    ensures { (x : ℕ) → list_any (untrue_at x) result ≡ one_broken_at x y cited.now }
+{
+    [
+        place_at_next(y, cited, 0),
+        place_at_next(y, cited, 1),
+        place_at_next(y, cited, 2),
+        place_at_next(y, cited, 3),
+    ]
+}
+
+// Does a choice of the letters make the claim's set untrue, and none of the lines' sets?
+fn counters(claim: LitSet, lines: &[LitSet], letters: u64) -> bool
+    ensures { Tells result ((x : ℕ) × Sub x letters × (untrue_at x claim && not (list_any (untrue_at x) lines.now) ≡ true)) }
+{
+    // By a rule of the project the choices and the lines are searched by loops, which a label leaves.
+    'choices: for x in Choices::among(letters) {
+        if !is_untrue(x, claim) {
+            continue 'choices;
+        }
+        for line in lines {
+            if is_untrue(x, *line) {
+                continue 'choices;
+            }
+        }
+        return true;
+    }
+    false
 }
 
 // Does a choice of the atoms break the claim and none of the lines?
 fn has_counterexample(claim: Claim, cited: &[Clause], atoms: Atoms) -> bool
+    requires { length cited.now ≤ 4 }
     ensures { Tells result ((y : ℕ) × Sub y atoms.next × (x : ℕ) × Sub x atoms.now × (counter_at x y (claimed claim) cited.now ≡ true)) }
 {
-    // By a rule of the project the choices and the lines are searched by loops, which a label leaves.
     for y in Choices::among(atoms.next) {
-        'choices: for x in Choices::among(atoms.now) {
-            if !breaks(x, y, claim.clause()) {
-                continue 'choices;
-            }
-            for line in cited {
-                if breaks(x, y, *line) {
-                    continue 'choices;
-                }
-            }
+        if is_untrue(y, claim.next) && counters(claim.now, &all_at_next(y, cited), atoms.now) {
             return true;
         }
     }

@@ -14,9 +14,7 @@ use text::cases::read_case;
 const HELP: &str =
     "runcheck [CASE [RUN]]\n\nJudges the case text CASE (case.txt) and, once it is accepted, the run text RUN (run.txt).\nA file that cannot be opened is read as a text without bytes.\n\nPrints one line, its fields parted by tabs:\n  kept LEAD-IN LOOP                     the run breaks no given clause at any moment\n  refused NUMBER LAYER LINE FIELD DETAIL  and says why on standard error\n\nEnds with 0 if the run is kept, and with 1 if it is refused.";
 
-fn judge(rt: &HostRuntime, paths: &[String]) -> Result<(), Ended> {
-    let case_path = paths.first().map_or("case.txt", |path| path.as_str());
-    let run_path = paths.get(1).map_or("run.txt", |path| path.as_str());
+fn judge(rt: &HostRuntime, case_path: &str, run_path: &str) -> Result<(), Ended> {
     let case_text = read_text(rt, case_path)?;
     let mut table = [Line::blank(); 1000];
     let mut row = [0u16; 200];
@@ -30,10 +28,13 @@ fn judge(rt: &HostRuntime, paths: &[String]) -> Result<(), Ended> {
 
 // Not shared by the programs: a function that calls its parameter asks something of its caller, and no public one does.
 fn main(rt: HostRuntime) -> io::Result<ExitCode> {
-    let paths: Vec<String> = env::args(&rt)?.skip(1).collect(rt.alloc())?;
-    if asks_for_help(&paths) {
+    let mut paths = env::args(&rt)?.skip(1);
+    let (case_path, run_path) = (paths.next(), paths.next());
+    if asks_for_help(case_path.as_slice()) {
         println!(rt; "{HELP}")?;
         return Ok(ExitCode::SUCCESS);
     }
-    exit_code(judge(&rt, &paths))
+    let case_path = case_path.as_ref().map_or("case.txt", |path| path.as_str());
+    let run_path = run_path.as_ref().map_or("run.txt", |path| path.as_str());
+    exit_code(judge(&rt, case_path, run_path))
 }

@@ -6,15 +6,15 @@ use crate::source::tested;
 use crate::table::WorldTable;
 use crate::world::{World, Worlds};
 use clause::refusal::{Fault, Refusal};
-use clause::sets::{bit_at, mask};
+use clause::sets::bit_at;
 
 impl World {
     // Says whether the letter k is true.
     fn change(&mut self, k: u8, yes: bool)
-        requires { k < 64 }
+        requires { k < 32 }
         ensures { (m : ℕ) → (bit self.new.letters m == 1) ≡ (if nat_eq m k then yes else (bit self.old.letters m == 1)) }
     {
-        let m = mask(k);
+        let m = 1u32 << k;
         self.letters = if yes {
             self.letters | m
         } else {
@@ -27,7 +27,7 @@ impl Worlds {
     // Changes one letter of one world in place.
     fn change(&mut self, i: u16, k: u8, yes: bool)
         requires moment { i < 64 }
-        requires letter { k < 64 }
+        requires letter { k < 32 }
         ensures { Changed i k yes self.old.at self.new.at }
     {
         self.at[usize::from(i)].change(k, yes);
@@ -37,7 +37,7 @@ impl Worlds {
         requires { i < 64 }
         ensures { result ≡ letter_in self.now.at i k }
     {
-        bit_at(self.at[usize::from(i)].letters, k)
+        bit_at(u64::from(self.at[usize::from(i)].letters), k)
     }
 }
 

@@ -61,9 +61,10 @@ impl Masks {
         ensures { Noted (F.post test) end k self.old.at self.new.at }
     {
         let m = mask(k);
-        for (i, world) in self.at[..usize::from(end)].iter_mut().enumerate() {
-            if test(i as u16, *world) {
-                *world |= m;
+        // By the moment and not by `iter_mut`: a source then tests no moment against its end once more, at each of them.
+        for i in 0..end {
+            if test(i, self.at[usize::from(i)]) {
+                self.at[usize::from(i)] |= m;
             }
         }
     }
@@ -77,7 +78,8 @@ impl Moments {
         ensures spans { Spans (R.meaning source.now) self.new }
         ensures noted { (i : ℕ) → i < self.old.end → slice_index self.new.worlds.at i ≡ noted ((R.meaning source.now).run i k) k (slice_index self.old.worlds.at i) }
     {
-        self.worlds.note(self.end, k, |i, _| truth(source, k, i));
+        let end = source.lead_in() + source.loop_length();
+        self.worlds.note(end, k, |i, _| truth(source, k, i));
     }
 
     // The moments of a source, with the plain letters asked for.

@@ -1,7 +1,7 @@
 // The letters of one moment: bit k is 1 where letter k is true.
 #[derive(Clone, Copy)]
 pub struct World {
-    pub(crate) letters: u64,
+    pub(crate) letters: u32,
 }
 
 // The worlds of a table.

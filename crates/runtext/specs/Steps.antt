@@ -1,5 +1,5 @@
 -- What a record of a run text does.
-use Rattle.std.specs.Prelude.{◌≡◌, ℕ, ◌+◌, ◌<◌, ◌≤◌, cond, ◌&&◌, ◌⊎◌, replicate, Some, None, Ok, Err, Result, ◌==◌, nat_lt}
+use Rattle.std.specs.Prelude.{◌≡◌, ℕ, ◌+◌, ◌<◌, ◌≤◌, true, false, cond, ◌&&◌, ◌⊎◌, replicate, None, is_some, Ok, Err, Result, ◌==◌, nat_lt}
 use Rattle.clause.specs.declared.refusal.Fault.{Fault}
 use Rattle.clause.specs.declared.refusal.Refusal.TheVariants.{LetterRange, WrongState, OutOfRange}
 use Rattle.clause.specs.Bit.{bit}
@@ -32,8 +32,8 @@ Times (Err f) = ⊥
 
 -- the letters of the next world; a world too many does not fit
 abbrev pub Tells : WorldTable → ℕ → Letters → Result RunStage Fault → Type 0
-Tells w n ks (Ok s) = (n < w.lead + w.turn) × ((m : ℕ) × (ks.mask ≡ Some m) × ((w' : WorldTable) × WorldTold n m w w' × (s ≡ Telling w' (n + 1))))
-Tells w n ks (Err f) = ((w.lead + w.turn ≤ n) × (f ≡ plain WrongState)) ⊎ ((n < w.lead + w.turn) × (ks.mask ≡ None) × (f ≡ misread LetterRange 2))
+Tells w n ks (Ok s) = (n < w.lead + w.turn) × (is_some ks.over ≡ false) × ((w' : WorldTable) × WorldTold n ks.mask w w' × (s ≡ Telling w' (n + 1)))
+Tells w n ks (Err f) = ((w.lead + w.turn ≤ n) × (f ≡ plain WrongState)) ⊎ ((n < w.lead + w.turn) × (is_some ks.over ≡ true) × (f ≡ misread LetterRange 2))
 
 -- the field of a refused task
 abbrev pub task_field : Fault → Fault → Type 0

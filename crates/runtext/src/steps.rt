@@ -33,9 +33,11 @@ fn tell(w: WorldTable, n: u16, letters: Letters) -> Result<RunStage, Fault>
     if n >= w.lead_in() + w.loop_length() {
         return Err(Fault::of(Refusal::WrongState));
     }
-    let mask = letters.mask.ok_or(misread(Refusal::LetterRange, 2))?;
+    if letters.over.is_some() {
+        return Err(misread(Refusal::LetterRange, 2));
+    }
     Ok(RunStage::Telling {
-        table: told(w, n, mask),
+        table: told(w, n, letters.mask),
         told: n + 1,
     })
 }

@@ -2,4 +2,4 @@ use Rattle.std.proofs.Common.{refl, rules}
 use Rattle.runtext.proofs.steps.tell.Goals as goal
 
 pub returns : goal.returns
-returns c = (search rules, (c.in_ok-mask.mask, search rules, (c.told.result, c.told.ensures, refl)))
+returns c = (search rules, search rules, (c.told.result, c.told.ensures, refl))
